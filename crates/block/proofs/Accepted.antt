@@ -1,0 +1,118 @@
+-- What Read's acceptance says of a file.
+-- Assumes nothing.
+use mathlib.Core.Path.{_≡_, refl, sym, ap, _∙_}
+use mathlib.Core.Bool.{Bool, true, false, false≢true}
+use mathlib.Core.List.{List, [], _∷_, _++_}
+use mathlib.Core.Logic.{⊎-elim}
+use Prim.Native.Nat.{ℕ, zero, suc, _+_, _-_, _*_, _/_, _%_, _≤_, _<_}
+use native.Mathlib.Nat.{eq-or-lt-of-le}
+use native.Mathlib.Omega.{arith}
+use lib.Dec.{leb}
+use lib.ListN.{length}
+use borrow.Author.Tests.{leb-true, ltb-true, eqb-true}
+use Rattle.laws.specs.Below.{allBelow, countBelow}
+use Rattle.laws.proofs.Tests.{and-left, and-right}
+use Rattle.laws.proofs.Below.{count-of-all, count-at-most, count-first}
+use Rattle.block.specs.declared.Refusal.{Refusal}
+use Rattle.block.specs.declared.Verdict.{Verdict}
+use Rattle.block.specs.declared.Verdict.the-variants.{Accepted, Refused}
+use Rattle.block.specs.declared.ReadAnswer.the-variants as answer
+use Rattle.block.specs.Record.{File, netCount, isInput}
+use Rattle.block.specs.Block.{arrival, inputsBelow, inputCount}
+use Rattle.block.specs.Verdict.{check, verdict}
+use Rattle.block.specs.Refusals.{fileChecks, inputInPlace, fieldChecks, recordChecks, recordsFrom, readChecks, answerTo, readOf}
+use Rattle.block.specs.Accepted.{InputRecord, GateRecord, AcceptedFile}
+use Rattle.block.proofs.Verdicts.{passed, both-accepted}
+use Rattle.block.proofs.Fields.{gate-record, input-record}
+
+-- Counts are the answer to an accepted file alone.
+counts-of : (file : File) (v : Verdict) (nets inputs : ℕ) → answerTo file v ≡ answer.Counts nets inputs
+    → (v ≡ Accepted) × (netCount file ≡ nets) × (inputCount file ≡ inputs)
+counts-of file Accepted nets inputs e = (refl, cc, cc)
+counts-of file (Refused r) nets inputs e = absurd (let z : _≡_ {A = ℕ} 0 1 = cc in omega arith)
+
+-- Every record of an accepted file was accepted.
+each-record : (file : File) (n first : ℕ) → verdict (recordsFrom file first n) ≡ Accepted
+    → (net : ℕ) → first ≤ net → net < first + n → verdict (recordChecks file net) ≡ Accepted
+unfolding recordsFrom
+each-record file zero first e net low high = absurd (omega arith)
+each-record file (suc n) first e net low high =
+    let both = both-accepted (recordChecks file first) (recordsFrom file (suc first) n) e in
+    ⊎-elim (λ (q : first ≡ net). rw q at (both .0)) (λ l. each-record file n (suc first) (both .1) net l (omega arith)) (eq-or-lt-of-le low)
+
+module _ (file : File) (net : ℕ) (sound : verdict (recordChecks file net) ≡ Accepted) where
+  fields-sound : verdict (fieldChecks file net) ≡ Accepted
+  unfolding recordChecks
+  fields-sound = both-accepted (fieldChecks file net) _ sound .0
+
+  arrival-sound : arrival file net ≤ 255
+  unfolding recordChecks
+  arrival-sound = leb-true _ _ (passed 10 net _ [] (both-accepted (fieldChecks file net) _ sound .1) .0)
+
+  placed : isInput file net ≡ true → (allBelow net (isInput file) ≡ true) × (inputsBelow file net < 64)
+  unfolding inputInPlace
+  placed i =
+      let p = input-record file net fields-sound i .1 in
+      (and-left _ _ p, ltb-true _ _ (and-right (allBelow net (isInput file)) _ p))
+
+-- What the whole-file checks leave true.
+file-sound : (file : File) → verdict (fileChecks file) ≡ Accepted
+    → (length file % 20 ≡ 0) × (netCount file ≤ 1024) × (1 ≤ netCount file) × (isInput file 0 ≡ true)
+unfolding fileChecks
+file-sound file e =
+    let p1 = passed _ _ _ _ e in
+    let p2 = passed _ _ _ _ (p1 .1) in
+    let p3 = passed _ _ _ _ (p2 .1) .0 in
+    (eqb-true _ _ (p1 .0), leb-true _ _ (p2 .0), leb-true _ _ (and-left _ _ p3), and-right (leb 1 (netCount file)) _ p3)
+
+module _ (file : File) (nets : ℕ) (sound : (net : ℕ) → net < nets → verdict (recordChecks file net) ≡ Accepted) where
+  -- The inputs are the first nets.
+  inputs-are : (net : ℕ) → net < nets → (net < inputsBelow file nets → isInput file net ≡ true) × (inputsBelow file nets ≤ net → isInput file net ≡ false)
+  unfolding inputsBelow
+  inputs-are = count-first nets (isInput file) (λ net h i. placed file net (sound net h) i .0)
+
+  -- The first net is one of them.
+  at-least-1 : 1 ≤ nets → isInput file 0 ≡ true → 1 ≤ inputsBelow file nets
+  at-least-1 h i = go (inputsBelow file nets) refl
+    where
+      go : (n : ℕ) → inputsBelow file nets ≡ n → 1 ≤ n
+      go zero e = absurd (false≢true (sym (inputs-are 0 h .1 (omega arith)) ∙ i))
+      go (suc n) e = omega arith
+
+  -- The last of them is at most the 64th.
+  at-most-64 : inputsBelow file nets ≤ 64
+  unfolding inputsBelow
+  at-most-64 = go (inputsBelow file nets) refl
+    where
+      go : (n : ℕ) → inputsBelow file nets ≡ n → n ≤ 64
+      go zero e = omega arith
+      go (suc n) e =
+          let most = count-at-most nets (isInput file) in
+          let i = inputs-are n (omega arith) .0 (omega arith) in
+          let p = placed file n (sound n (omega arith)) i in
+          let c : inputsBelow file n ≡ n = count-of-all n (isInput file) (p .0) in
+          omega arith
+
+pub accepted : (file : File) (nets inputs : ℕ) → readOf file ≡ answer.Counts nets inputs → AcceptedFile file nets inputs
+unfolding readOf readChecks inputsBelow
+accepted file nets inputs e =
+    let v = counts-of file (verdict (readChecks file)) nets inputs e in
+    let both = both-accepted (fileChecks file) (recordsFrom file 0 (netCount file)) (v .0) in
+    let f = file-sound file (both .0) in
+    let n : netCount file ≡ nets = v .1 in
+    let sound : (net : ℕ) → net < nets → verdict (recordChecks file net) ≡ Accepted =
+      λ net h. each-record file (netCount file) 0 (both .1) net (omega arith) (omega arith) in
+    let i : inputsBelow file nets ≡ inputs = ap (inputsBelow file) (sym n) ∙ v .2 in
+    let are = inputs-are file nets sound in
+    let most = count-at-most nets (isInput file) in
+    let few = at-most-64 file nets sound in
+    let some = at-least-1 file nets sound (omega arith) (f .3) in
+    record {
+      whole = omega arith;
+      few-nets = omega arith;
+      one-input = omega arith;
+      few-inputs = omega arith;
+      inputs-first = omega arith;
+      input = λ net h. input-record file net (fields-sound file net (sound net (omega arith))) (are net (omega arith) .0 (omega arith)) .0;
+      gate = λ net low high. gate-record file net (fields-sound file net (sound net high)) (are net high .1 (omega arith));
+      arrives = λ net h. arrival-sound file net (sound net h) }

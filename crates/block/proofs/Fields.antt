@@ -1,0 +1,125 @@
+-- What checks 4 to 9 leave true of a record.
+-- Assumes nothing.
+use mathlib.Core.Path.{_≡_, refl, sym, _∙_}
+use mathlib.Core.Bool.{Bool, true, false}
+use Prim.Native.Nat.{ℕ, _≤_, _<_}
+use native.Mathlib.Omega.{arith}
+use lib.Dec.{leb, ltb}
+use borrow.Author.Tests.{leb-true, ltb-true, eqb-false, eq-eqb, ne-eqb, lt-ltb, le-ltb}
+use Rattle.laws.specs.Below.{allBelow}
+use Rattle.laws.proofs.Tests.{and-left, and-right, and-both, and-second-fails}
+use Rattle.laws.proofs.Below.{all-at, all-of-count, not-all-of-count}
+use Rattle.block.specs.declared.Verdict.the-variants.{Accepted}
+use Rattle.block.specs.Record.{File, kind, contact, delay, pinCount, pin, rise, fall, isInput}
+use Rattle.block.specs.Kind.{Kind, NONE, INPUT, AND, NAND, OR, NOR, XOR, XNOR, NOT, BUF, kindOf, ruleOf}
+use Rattle.block.specs.Block.{inputsBelow}
+use Rattle.block.specs.Verdict.{verdict}
+use Rattle.block.specs.Refusals.{within, inputInPlace, pinCountRight, pinsBelow, gateInRange, inputChecks, gateChecks, fieldChecks}
+use Rattle.block.specs.Accepted.{InputRecord, GateRecord}
+use Rattle.block.proofs.Verdicts.{passed}
+
+pub within-low : (low high x : ℕ) → within low high x ≡ true → low ≤ x
+unfolding within
+within-low low high x t = leb-true low x (and-left (leb low x) (leb x high) t)
+
+pub within-high : (low high x : ℕ) → within low high x ≡ true → x ≤ high
+unfolding within
+within-high low high x t = leb-true x high (and-right (leb low x) (leb x high) t)
+
+-- Check 5, from how many inputs stand below a net.
+module _ (file : File) (net inputs : ℕ) (counted : inputs ≡ inputsBelow file net) where
+  pub after-gate : (inputs ≡ net → ⊥) → inputInPlace file net ≡ false
+  unfolding inputInPlace inputsBelow
+  after-gate h = rw (not-all-of-count net (isInput file) (λ e. h (counted ∙ e))) refl
+
+  pub past-64 : 64 ≤ inputs → inputInPlace file net ≡ false
+  unfolding inputInPlace
+  past-64 h = and-second-fails (allBelow net (isInput file)) (le-ltb _ _ (rw counted at h))
+
+  pub in-place : inputs ≡ net → inputs < 64 → inputInPlace file net ≡ true
+  unfolding inputInPlace inputsBelow
+  in-place e h = and-both (all-of-count net (isInput file) (sym counted ∙ e)) (lt-ltb _ _ (rw counted at h))
+
+-- Whatever the kind, a pin count that fits it is 1 to 4.
+rule-bounds : (k : Kind) → (1 ≤ ruleOf k .least) × (ruleOf k .most ≤ 4)
+rule-bounds NONE = omega arith
+rule-bounds INPUT = omega arith
+rule-bounds AND = omega arith
+rule-bounds NAND = omega arith
+rule-bounds OR = omega arith
+rule-bounds NOR = omega arith
+rule-bounds XOR = omega arith
+rule-bounds XNOR = omega arith
+rule-bounds NOT = omega arith
+rule-bounds BUF = omega arith
+
+pub one-pin : (file : File) (net : ℕ) → pinCountRight file net ≡ true → 1 ≤ pinCount file net
+unfolding pinCountRight
+one-pin file net t =
+    let bounds = rule-bounds (kindOf (kind file net)) in
+    let low = within-low _ _ _ t in
+    omega arith
+
+pub four-pins : (file : File) (net : ℕ) → pinCountRight file net ≡ true → pinCount file net ≤ 4
+unfolding pinCountRight
+four-pins file net t =
+    let bounds = rule-bounds (kindOf (kind file net)) in
+    let high = within-high _ _ _ t in
+    omega arith
+
+-- Kind 1 is an input, and any other kind a gate.
+pub is-input : (file : File) (net : ℕ) → kind file net ≡ 1 → isInput file net ≡ true
+unfolding isInput
+is-input file net e = eq-eqb _ _ e
+
+pub is-gate : (file : File) (net : ℕ) → (kind file net ≡ 1 → ⊥) → isInput file net ≡ false
+unfolding isInput
+is-gate file net h = ne-eqb _ _ h
+
+gate-kind : (file : File) (net : ℕ) → isInput file net ≡ false → kind file net ≡ 1 → ⊥
+unfolding isInput
+gate-kind file net e = eqb-false _ _ e
+
+-- Checks 4 to 9 passed on a gate, and on an input.
+
+gate-ranges : (file : File) (net : ℕ) → gateInRange file net ≡ true
+    → (within 0 15 (contact file net) ≡ true) × (within 1 63 (delay file net) ≡ true) × (within 1 127 (rise file net) ≡ true) × (within 1 127 (fall file net) ≡ true)
+unfolding gateInRange
+gate-ranges file net t =
+    let second = and-right (within 0 15 (contact file net)) _ t in
+    let third = and-right (within 1 63 (delay file net)) _ second in
+    (and-left _ _ t, and-left _ _ second, and-left _ _ third, and-right (within 1 127 (rise file net)) _ third)
+
+pub gate-record : (file : File) (net : ℕ) → verdict (fieldChecks file net) ≡ Accepted → isInput file net ≡ false → GateRecord file net
+unfolding fieldChecks gateChecks pinsBelow
+gate-record file net e g =
+    let p4 = passed _ _ _ _ e in
+    let p6 = passed _ _ _ _ (rw g at (p4 .1)) in
+    let p7 = passed _ _ _ _ (p6 .1) in
+    let p8 = passed _ _ _ _ (p7 .1) in
+    let p9 = gate-ranges file net (passed _ _ _ _ (p8 .1) .0) in
+    let low = within-low _ _ _ (p4 .0) in
+    let not-one = gate-kind file net g in
+    record {
+      gate = g;
+      kind-low = omega arith;
+      kind-high = within-high _ _ _ (p4 .0);
+      one-pin = one-pin file net (p6 .0);
+      four-pins = four-pins file net (p6 .0);
+      pin-below = λ p h. ltb-true _ _ (all-at _ (λ q. ltb (pin file net q) net) p (p8 .0) h);
+      contact-high = within-high _ _ _ (p9 .0);
+      delay-low = within-low _ _ _ (p9 .1);
+      delay-high = within-high _ _ _ (p9 .1);
+      rise-low = within-low _ _ _ (p9 .2);
+      rise-high = within-high _ _ _ (p9 .2);
+      fall-low = within-low _ _ _ (p9 .3);
+      fall-high = within-high _ _ _ (p9 .3);
+    }
+
+pub input-record : (file : File) (net : ℕ) → verdict (fieldChecks file net) ≡ Accepted → isInput file net ≡ true
+    → InputRecord file net × (inputInPlace file net ≡ true)
+unfolding fieldChecks inputChecks
+input-record file net e g =
+    let p5 = passed _ _ _ _ (rw g at (passed _ _ _ _ e .1)) in
+    let p9 = passed _ _ _ _ (passed _ _ _ _ (p5 .1) .1) in
+    (record { input = g; allowed-low = within-low _ _ _ (p9 .0); allowed-high = within-high _ _ _ (p9 .0) }, p5 .0)

@@ -1,0 +1,4 @@
+pub mod Verdicts
+pub mod Fields
+pub mod Records
+pub mod Accepted

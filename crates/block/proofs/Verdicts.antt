@@ -1,0 +1,58 @@
+-- Laws of verdicts: how code that makes one check after the other comes to the verdict on a list of checks, and what an accepted
+-- list says of each of its checks.
+-- Assumes nothing.
+use mathlib.Core.Path.{_≡_, refl, sym, _∙_}
+use mathlib.Core.Bool.{Bool, true, false}
+use mathlib.Core.List.{List, [], _∷_, _++_}
+use Prim.Native.Nat.{ℕ}
+use native.Mathlib.Omega.{arith}
+use Rattle.block.specs.declared.Refusal.{Refusal}
+use Rattle.block.specs.declared.Verdict.{Verdict}
+use Rattle.block.specs.declared.Verdict.the-variants.{Accepted, Refused}
+use Rattle.block.specs.Verdict.{Check, check, refusal, verdict}
+
+pub passes : (number place : ℕ) {b : Bool} (rest : List Check) {v : Verdict} → b ≡ true → v ≡ verdict rest
+    → v ≡ verdict (check number place b ∷ rest)
+unfolding verdict
+passes number place rest t e = rw t e
+
+pub fails : (number place : ℕ) {b : Bool} (rest : List Check) {v : Verdict} → b ≡ false → v ≡ Refused (refusal number place)
+    → v ≡ verdict (check number place b ∷ rest)
+unfolding verdict
+fails number place rest t e = rw t e
+
+pub all-passed : Accepted ≡ verdict []
+unfolding verdict
+all-passed = refl
+
+-- A list that goes on after another: the first one's refusal stands, and its acceptance leaves the verdict to the second.
+
+pub refused-first : (s t : List Check) (r : Refusal) → verdict s ≡ Refused r → verdict (s ++ t) ≡ Refused r
+unfolding verdict
+refused-first [] t r e = absurd (let z : _≡_ {A = ℕ} 0 1 = cc in omega arith)
+refused-first (check number place true ∷ s) t r e = refused-first s t r e
+refused-first (check number place false ∷ s) t r e = e
+
+pub accepted-first : (s t : List Check) → verdict s ≡ Accepted → verdict (s ++ t) ≡ verdict t
+unfolding verdict
+accepted-first [] t e = refl
+accepted-first (check number place true ∷ s) t e = accepted-first s t e
+accepted-first (check number place false ∷ s) t e = absurd (let z : _≡_ {A = ℕ} 0 1 = cc in omega arith)
+
+-- What an accepted list says.
+
+pub passed : (number place : ℕ) (b : Bool) (rest : List Check) → verdict (check number place b ∷ rest) ≡ Accepted
+    → (b ≡ true) × (verdict rest ≡ Accepted)
+unfolding verdict
+passed number place true rest e = (refl, e)
+passed number place false rest e = absurd (let z : _≡_ {A = ℕ} 0 1 = cc in omega arith)
+
+pub both-accepted : (s t : List Check) → verdict (s ++ t) ≡ Accepted → (verdict s ≡ Accepted) × (verdict t ≡ Accepted)
+unfolding verdict
+both-accepted [] t e = (refl, e)
+both-accepted (check number place true ∷ s) t e = both-accepted s t e
+both-accepted (check number place false ∷ s) t e = absurd (let z : _≡_ {A = ℕ} 0 1 = cc in omega arith)
+
+-- No verdict is both.
+pub apart : {P : Type 0} (r : Refusal) → Refused r ≡ Accepted → P
+apart r e = absurd (let z : _≡_ {A = ℕ} 0 1 = cc in omega arith)

@@ -1,0 +1,88 @@
+use lib.ListN.{length-set}
+use mathlib.Core.Path.{_≡_, refl, sym, ap, _∙_}
+use Prim.Native.Nat.{ℕ, _+_, _-_, _*_, _%_, _≤_, _<_}
+use native.Mathlib.Omega.{arith}
+use Rattle.block.specs.Block.{arrivalFrom, arrival}
+use Rattle.block.proofs.Verdicts.{apart}
+use Rattle.block.proofs.Records.{fields-refused, arrives-late, record-passes, arrived-next}
+use borrow.Author.Needs.{needs}
+use Rattle.block.proofs.reader.check_record.Statement.{statement}
+use Rattle.block.proofs.reader.check_record.Tie as tie
+use Rattle.block.proofs.reader.check_record.Reads as reads
+use Rattle.block.proofs.reader.check_record.Lts as lts
+use Rattle.block.proofs.checks.check_fields.Reads as check-fields-reads
+use Rattle.block.proofs.checks.refused.Reads as refused-reads
+use Rattle.block.proofs.reader.arrival.Reads as arrival-reads
+
+-- src/reader.rt:59:9
+check-fields-requires : tie.Need-check-fields-requires
+check-fields-requires c κs = search needs
+
+-- src/reader.rt:60:29
+enum-known-fields : tie.Need-enum-known-fields
+enum-known-fields c = search needs
+
+-- src/reader.rt:61:9
+returns : tie.Need-returns
+returns c =
+    let refusal = sym (c .before .before .before .check-fields .ensures) ∙ c .before .fields .given .1 in
+    record { judged = sym (fields-refused _ _ _ refusal); sized = c .before .before .before .before .before .pre .1 .sized; arrived = λ e. apart _ e }
+
+enum-told : tie.Need-enum-told
+enum-told c = search needs
+
+-- src/reader.rt:63:9
+arrival-requires : tie.Need-arrival-requires
+arrival-requires c κs = (search needs, sym (c .before .before .before .check-fields .ensures) ∙ c .before .enum-told .given .1)
+
+-- src/reader.rt:65:9
+refused-requires : tie.Need-refused-requires
+refused-requires c κs = search needs
+
+-- src/reader.rt:65:9
+returns-2 : tie.Need-returns-2
+returns-2 c =
+    let start = c .before .before .before .before .before .before .before .before in
+    let sound = sym (c .before .before .before .before .before .before .check-fields .ensures) ∙ c .before .before .before .before .enum-told .given .1 in
+    let a : c .before .before .arrival .result ≡ arrival (start .args .file .now) (start .args .net .0) =
+      c .before .before .arrival .ensures ∙ ap (λ e. arrivalFrom (start .args .file .now) e (start .args .net .0)) (start .pre .1 .arrived) in
+    record {
+      judged = c .refused .ensures ∙ sym (arrives-late _ _ sound (rw a at (c .before .if1 .taken)));
+      sized = start .pre .1 .sized;
+      arrived = λ e. apart _ (sym (c .refused .ensures) ∙ e) }
+
+-- src/reader.rt:68:20
+cast-arrivals : tie.Need-cast-arrivals
+cast-arrivals c = search needs
+
+-- src/reader.rt:68:5
+element-write-arrivals : tie.Need-element-write-arrivals
+element-write-arrivals c = search needs
+
+-- src/reader.rt:55:1
+returns-3 : tie.Need-returns-3
+returns-3 c =
+    let start = c .before .before .before .before .before .before .before in
+    let sound = sym (c .before .before .before .before .before .check-fields .ensures) ∙ c .before .before .before .enum-told .given .1 in
+    let a : c .before .arrival .result ≡ arrival (start .args .file .now) (start .args .net .0) =
+      c .before .arrival .ensures ∙ ap (λ e. arrivalFrom (start .args .file .now) e (start .args .net .0)) (start .pre .1 .arrived) in
+    let kept : c .before .arrival .result % 256 ≡ c .before .arrival .result = omega arith in
+    record {
+      judged = sym (record-passes _ _ sound (rw a at (c .if1 .left)));
+      sized = simp length-set (start .pre .1 .sized);
+      arrived = λ e. arrived-next _ _ _ _ (omega arith) (start .pre .1 .arrived) (kept ∙ a) }
+
+pub check-record-spec : {M : Type 1} → statement M
+check-record-spec =
+    tie.close
+    (tie.spec
+    check-fields-requires
+    enum-known-fields
+    returns
+    enum-told
+    arrival-requires
+    refused-requires
+    returns-2
+    cast-arrivals
+    element-write-arrivals
+    returns-3)

@@ -1,0 +1,103 @@
+use borrow.Author.Needs.{needs}
+use mathlib.Core.Path.{_≡_, refl, sym, ap, ap₂, _∙_}
+use Prim.Native.Nat.{ℕ, _+_, _-_, _*_, _%_, _≤_, _<_}
+use native.Mathlib.Omega.{arith}
+use lib.ListN.{length}
+use Rattle.laws.specs.Below.{countBelow}
+use Rattle.laws.specs.Turn.{inTurn}
+use Rattle.block.specs.declared.ReadAnswer.the-variants as answer
+use Rattle.block.specs.Record.{netCount}
+use Rattle.block.specs.Block.{arrivals, inputsBelow}
+use Rattle.block.specs.Verdict.{verdict}
+use Rattle.block.specs.Refusals.{recordsFrom, answerTo}
+use Rattle.block.specs.Read.{Known}
+use Rattle.block.proofs.Records.{counted-next, records-refused, records-next, records-end}
+use Rattle.block.proofs.reader.check_records.Statement.{statement}
+use Rattle.block.proofs.reader.check_records.Tie as tie
+use Rattle.block.proofs.reader.check_records.Reads as reads
+use Rattle.block.proofs.reader.check_records.Lts as lts
+use Rattle.block.proofs.reader.check_record.Reads as check-record-reads
+use Rattle.block.proofs.reader.input_digit.Reads as input-digit-reads
+
+abbrev Inv-loop : tie.InvT-loop
+Inv-loop file nets arrivals₀ inputs₀ net₀ arrivals inputs net = (net ≤ nets) × (inputs ≤ net) × Known file net inputs arrivals × (verdict (recordsFrom file net (nets - net)) ≡ verdict (recordsFrom file 0 nets))
+
+abbrev μ-loop : tie.MeasureT-loop
+μ-loop file nets arrivals₀ inputs₀ net₀ arrivals inputs net = nets - net
+
+-- src/reader.rt:88:5
+loop-holds : tie.Need-loop-holds Inv-loop μ-loop
+unfolding inputsBelow countBelow arrivals inTurn
+loop-holds c =
+    let e : c .before .args .nets - 0 ≡ c .before .args .nets = omega arith in
+    (search needs, search needs, record { counted = refl; sized = refl; arrived = refl }, rw e refl)
+
+-- src/reader.rt:89:13
+check-record-requires : tie.Need-check-record-requires Inv-loop μ-loop
+check-record-requires c κs = (omega arith, c .before .before .loop .inv .2)
+
+-- src/reader.rt:90:33
+enum-known-checked : tie.Need-enum-known-checked Inv-loop μ-loop
+enum-known-checked c = search needs
+
+-- src/reader.rt:91:13
+returns : tie.Need-returns Inv-loop μ-loop
+returns c =
+    let l = c .before .before .before .before .before .before .loop in
+    let refusal = sym (c .before .before .before .check-record .ensures .judged) ∙ c .before .checked .given .1 in
+    ap (answerTo _) (sym (records-refused _ _ _ (c .before .before .before .before .before .loop-test .taken) _ refusal) ∙ l .inv .3)
+
+enum-told : tie.Need-enum-told Inv-loop μ-loop
+enum-told c = search needs
+
+-- src/reader.rt:93:19
+input-digit-requires : tie.Need-input-digit-requires Inv-loop μ-loop
+input-digit-requires c κs = search needs
+
+-- src/reader.rt:93:9
+add-inputs : tie.Need-add-inputs Inv-loop μ-loop
+add-inputs c = search needs
+
+-- src/reader.rt:94:9
+add-net : tie.Need-add-net Inv-loop μ-loop
+add-net c = search needs
+
+-- src/reader.rt:88:5
+loop-less : tie.Need-loop-less Inv-loop μ-loop
+loop-less c = search needs
+
+-- src/reader.rt:88:5
+loop-again : tie.Need-loop-again Inv-loop μ-loop
+loop-again c =
+    let l = c .before .before .before .before .before .before .loop in
+    let checked = c .before .before .before .check-record .ensures in
+    let told = c .before .enum-told .given .1 in
+    let counted = ap (λ n. l .inputs + n) (c .input-digit .ensures .0) ∙ counted-next _ _ _ (l .inv .2 .counted) in
+    (omega arith, omega arith, record { counted = counted; sized = checked .sized; arrived = checked .arrived told }, records-next _ _ _ (c .before .before .before .before .before .loop-test .taken) (sym (checked .judged) ∙ told) ∙ l .inv .3)
+
+-- src/reader.rt:81:1
+returns-2 : tie.Need-returns-2 Inv-loop μ-loop
+returns-2 c =
+    let l = c .before .loop in
+    let start = c .before .before .before in
+    let n : l .net ≡ netCount (start .args .file .now) = omega arith in
+    ap₂ answer.Counts n (l .inv .2 .counted ∙ ap (inputsBelow (start .args .file .now)) n)
+    ∙ ap (answerTo _) (sym (records-end _ _ _ (c .loop-test .left)) ∙ l .inv .3)
+
+pub check-records-spec : {M : Type 1} → statement M
+check-records-spec =
+    tie.close
+    (tie.spec
+    Inv-loop
+    μ-loop
+    loop-holds
+    check-record-requires
+    enum-known-checked
+    returns
+    enum-told
+    input-digit-requires
+    add-inputs
+    add-net
+    loop-less
+    loop-again
+    returns-2)

@@ -1,0 +1,55 @@
+-- What is made of a block's records: arrivals, the frame, the fan-out cone of an input and the quiet tick.
+use mathlib.Core.Bool.{Bool, true, false, cond, _||_}
+use mathlib.Core.List.{List}
+use Prim.Native.Nat.{ℕ, _+_, _-_, max}
+use lib.Dec.{eqb}
+use lib.ListN.{getD}
+use Rattle.laws.specs.Below.{anyBelow, maxBelow, countBelow, productBelow, listBelow}
+use Rattle.laws.specs.Turn.{inTurn}
+use Rattle.excitation.specs.UncertaintySet.{UncertaintySet, decode, size}
+use Rattle.block.specs.Record.{File, netCount, isInput, delay, pinCount, pin, rise, fall, allowed}
+
+-- Document 01's arrival of a net, from the arrivals of the nets below it: 0 for an input; for a gate the greatest arrival of its
+-- pins plus D.
+unfoldable pub arrivalFrom : File → List ℕ → ℕ → ℕ
+arrivalFrom file below net =
+    cond (isInput file net) 0 (maxBelow (pinCount file net) (λ p. getD below (pin file net p) 0) + delay file net)
+
+-- The arrivals of the first n nets, and the arrival of a net.
+unfoldable pub arrivals : File → ℕ → List ℕ
+arrivals file = inTurn (arrivalFrom file)
+
+abbrev pub arrival : File → ℕ → ℕ
+arrival file net = arrivalFrom file (arrivals file net) net
+
+-- How many of the first n nets are inputs.
+unfoldable pub inputsBelow : File → ℕ → ℕ
+inputsBelow file n = countBelow n (isInput file)
+
+abbrev pub inputCount : File → ℕ
+inputCount file = inputsBelow file (netCount file)
+
+-- Document 01's frame, every choice of one allowed excitation per input: the set of each input.
+unfoldable pub frame : File → List UncertaintySet
+frame file = listBelow (inputCount file) (λ net. decode (allowed file net))
+
+-- N, the number of patterns in the frame: the product, over the inputs, of how many excitations byte 18 allows.
+unfoldable pub patternCount : File → ℕ
+patternCount file = productBelow (inputCount file) (λ net. size (decode (allowed file net)))
+
+-- Whether a net feeds a gate, directly or through others, given which nets below the gate it feeds.
+unfoldable pub fedFrom : File → ℕ → List Bool → ℕ → Bool
+fedFrom file source below gate = anyBelow (pinCount file gate) (λ p. eqb (pin file gate p) source || getD below (pin file gate p) false)
+
+-- How many gates stand in the fan-out cone of a net: gates it feeds, directly or through others, each counted once.
+unfoldable pub coneSize : File → ℕ → ℕ
+coneSize file source =
+    let fed = inTurn (fedFrom file source) (netCount file) in
+    countBelow (netCount file) (λ gate. getD fed gate false)
+
+-- Document 01's quiet tick: the greatest arrival − D + r + f of a gate, 0 without gates.
+unfoldable pub quietTick : File → ℕ
+quietTick file =
+    let times = arrivals file (netCount file) in
+    maxBelow (netCount file)
+    (λ net. cond (isInput file net) 0 (getD times net 0 - delay file net + rise file net + fall file net))

@@ -1,0 +1,101 @@
+-- Checks 1 to 10, and Read (document 01, "Refusals in checking order").
+use mathlib.Core.Bool.{Bool, true, false, cond, _&&_}
+use mathlib.Core.List.{List, [], _∷_, _++_}
+use Prim.Native.Nat.{ℕ, zero, suc, _+_, _-_, _*_, _%_}
+use lib.Dec.{eqb, leb, ltb}
+use lib.ListN.{length}
+use Rattle.laws.specs.Below.{allBelow}
+use Rattle.block.specs.declared.Verdict.{Verdict}
+use Rattle.block.specs.declared.Verdict.the-variants as verdict-is
+use Rattle.block.specs.declared.ReadAnswer.{ReadAnswer}
+use Rattle.block.specs.declared.ReadAnswer.the-variants as answer
+use Rattle.block.specs.Record.{File, netCount, byteAt, kind, contact, delay, pinCount, pin, rise, fall, allowed, isInput}
+use Rattle.block.specs.Kind.{kindOf, ruleOf}
+use Rattle.block.specs.Block.{arrival, inputsBelow, inputCount}
+use Rattle.block.specs.Verdict.{Check, check, verdict}
+
+-- Whether x is low to high.
+unfoldable pub within : ℕ → ℕ → ℕ → Bool
+within low high x = leb low x && leb x high
+
+-- Whether the n bytes from byte k of a record on are 0.
+unfoldable pub zeroBytes : File → ℕ → ℕ → ℕ → Bool
+zeroBytes file net k n = allBelow n (λ i. eqb (byteAt file net (k + i)) 0)
+
+-- 1. The length is not a multiple of 20.
+-- 2. There are more than 1,024 records.
+-- 3. There is no record, or the first kind is not 1.
+unfoldable pub fileChecks : File → List Check
+fileChecks file =
+    check 1 0 (eqb (length file % 20) 0)
+    ∷ check 2 0 (leb (netCount file) 1024)
+    ∷ check 3 0 (leb 1 (netCount file) && isInput file 0)
+    ∷ []
+
+-- 5. An input stands after a gate, or is the 65th.
+unfoldable pub inputInPlace : File → ℕ → Bool
+inputInPlace file net = allBelow net (isInput file) && ltb (inputsBelow file net) 64
+
+-- 7. A non-zero byte stands in bytes 1 to 17 or 19 of an input, ..
+unfoldable pub inputSpareZero : File → ℕ → Bool
+inputSpareZero file net = zeroBytes file net 1 17 && zeroBytes file net 19 1
+
+-- .. or in an unused pin, byte 18 or byte 19 of a gate.
+unfoldable pub gateSpareZero : File → ℕ → Bool
+gateSpareZero file net = zeroBytes file net (4 + 2 * pinCount file net) (8 - 2 * pinCount file net) && zeroBytes file net 18 2
+
+-- 6. A gate's pin count is wrong for its kind.
+unfoldable pub pinCountRight : File → ℕ → Bool
+pinCountRight file net =
+    let rule = ruleOf (kindOf (kind file net)) in
+    within (rule .least) (rule .most) (pinCount file net)
+
+-- 8. A used pin is not below its own net.
+unfoldable pub pinsBelow : File → ℕ → Bool
+pinsBelow file net = allBelow (pinCount file net) (λ p. ltb (pin file net p) net)
+
+-- 9. A gate's contact, delay, rise or fall, or an input's byte 18 (1 to 15), is outside its range.
+unfoldable pub gateInRange : File → ℕ → Bool
+gateInRange file net =
+    within 0 15 (contact file net) && (within 1 63 (delay file net) && (within 1 127 (rise file net) && within 1 127 (fall file net)))
+
+unfoldable pub inputChecks : File → ℕ → List Check
+inputChecks file net =
+    check 5 net (inputInPlace file net)
+    ∷ check 7 net (inputSpareZero file net)
+    ∷ check 9 net (within 1 15 (allowed file net))
+    ∷ []
+
+unfoldable pub gateChecks : File → ℕ → List Check
+gateChecks file net =
+    check 6 net (pinCountRight file net)
+    ∷ check 7 net (gateSpareZero file net)
+    ∷ check 8 net (pinsBelow file net)
+    ∷ check 9 net (gateInRange file net)
+    ∷ []
+
+-- 4. The kind is 0 or above 9. Then the checks 5 to 9 on an input, or on a gate.
+unfoldable pub fieldChecks : File → ℕ → List Check
+fieldChecks file net =
+    check 4 net (within 1 9 (kind file net)) ∷ cond (isInput file net) (inputChecks file net) (gateChecks file net)
+
+-- 10. The arrival exceeds 255.
+unfoldable pub recordChecks : File → ℕ → List Check
+recordChecks file net = fieldChecks file net ++ (check 10 net (leb (arrival file net) 255) ∷ [])
+
+-- The checks on n records from a net on, 4 to 10 on one before the next.
+unfoldable pub recordsFrom : File → ℕ → ℕ → List Check
+recordsFrom file net zero = []
+recordsFrom file net (suc n) = recordChecks file net ++ recordsFrom file (suc net) n
+
+-- Whole-file checks come first, then records by net number.
+unfoldable pub readChecks : File → List Check
+readChecks file = fileChecks file ++ recordsFrom file 0 (netCount file)
+
+-- Read takes the file and returns its counts of nets and inputs.
+abbrev pub answerTo : File → Verdict → ReadAnswer
+answerTo file verdict-is.Accepted = answer.Counts (netCount file) (inputCount file)
+answerTo file (verdict-is.Refused r) = answer.Refused r
+
+unfoldable pub readOf : File → ReadAnswer
+readOf file = answerTo file (verdict (readChecks file))

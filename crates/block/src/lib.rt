@@ -1,0 +1,66 @@
+// The block file: its records, what a gate's kind decides, and the reader.
+ghost use mathlib.Core.Path.{_≡_};
+ghost use Prim.Native.Nat.{_*_, _≤_, _<_};
+ghost use Rattle.block.specs.Verdict.{refusal};
+ghost use Rattle.block.specs.declared.ReadAnswer.the-variants.{Refused};
+ghost use Rattle.block.specs.Refusals.{readOf};
+
+mod checks;
+mod kind;
+mod reader;
+pub mod record;
+
+pub use kind::Rule;
+pub use kind::gate_rule;
+
+// A net's number: the position of its record in the file.
+pub struct Net(pub usize);
+
+// A search case's number: the position of its record in the case store. Never read as a net's number.
+pub struct Case(pub usize);
+
+// Document 01's refusal.
+pub struct Refusal {
+    pub number: u64,
+    pub place: u64,
+}
+
+// What a list of checks comes to.
+pub enum Verdict {
+    Accepted,
+    Refused(Refusal),
+}
+
+// What Read answers.
+pub enum ReadAnswer {
+    Counts { nets: u64, inputs: u64 },
+    Refused(Refusal),
+}
+
+// The refusal of a whole file, at place 0.
+fn refused_file(number: u64) -> ReadAnswer
+    ensures { λ r. ⌜ r ≡ Refused (refusal number 0) ⌝ }
+{
+    ReadAnswer::Refused(Refusal { number, place: 0 })
+}
+
+// Read: checks 1 to 10, and the counts of nets and inputs.
+pub fn read(file: &[u8]) -> ReadAnswer
+    ensures { λ r. ⌜ r ≡ readOf (now (file .entry)) ⌝ }
+{
+    let length = file.len();
+    if length % 20 != 0 {
+        return refused_file(1);
+    }
+    let nets = length / 20;
+    if 1024 < nets {
+        return refused_file(2);
+    }
+    if nets < 1 {
+        return refused_file(3);
+    }
+    if record::kind(file, Net(0)) != 1 {
+        return refused_file(3);
+    }
+    reader::check_records(file, nets)
+}

@@ -1,0 +1,86 @@
+// The fields of a record, read through the file's bytes.
+ghost use mathlib.Core.Path.{_≡_};
+ghost use Prim.Native.Nat.{ℕ, _+_, _*_, _<_, _≤_};
+ghost use lib.ListN.{length};
+ghost use Rattle.block.specs.Record.{HasRecord, byteAt, wordAt, kind, contact, delay, pinCount, pin, rise, fall, allowed};
+use super::Net;
+
+pub fn wide(x: u8) -> usize
+    ensures { λ r. ⌜ (r ≡ x) × (r < 256) ⌝ }
+{
+    x as usize
+}
+
+// Byte k of the record of a net.
+pub fn byte(file: &[u8], net: Net, k: usize) -> usize
+    requires { ⌜ HasRecord (now file) (net .0) × (k < 20) ⌝ }
+    ensures { λ r. ⌜ (r ≡ byteAt (now (file .entry)) (net .0) k) × (r < 256) ⌝ }
+{
+    let n = net.0;
+    wide(file[20 * n + k])
+}
+
+// The two-byte number at byte k, the low byte first.
+pub fn word(file: &[u8], net: Net, k: usize) -> usize
+    requires { ⌜ HasRecord (now file) (net .0) × (k < 19) ⌝ }
+    ensures { λ r. ⌜ (r ≡ wordAt (now (file .entry)) (net .0) k) × (r < 65536) ⌝ }
+{
+    byte(file, net, k) + 256 * byte(file, net, k + 1)
+}
+
+pub fn kind(file: &[u8], net: Net) -> usize
+    requires { ⌜ HasRecord (now file) (net .0) ⌝ }
+    ensures { λ r. ⌜ (r ≡ kind (now (file .entry)) (net .0)) × (r < 256) ⌝ }
+{
+    byte(file, net, 0)
+}
+
+pub fn contact(file: &[u8], net: Net) -> usize
+    requires { ⌜ HasRecord (now file) (net .0) ⌝ }
+    ensures { λ r. ⌜ (r ≡ contact (now (file .entry)) (net .0)) × (r < 256) ⌝ }
+{
+    byte(file, net, 1)
+}
+
+pub fn delay(file: &[u8], net: Net) -> usize
+    requires { ⌜ HasRecord (now file) (net .0) ⌝ }
+    ensures { λ r. ⌜ (r ≡ delay (now (file .entry)) (net .0)) × (r < 256) ⌝ }
+{
+    byte(file, net, 2)
+}
+
+pub fn pin_count(file: &[u8], net: Net) -> usize
+    requires { ⌜ HasRecord (now file) (net .0) ⌝ }
+    ensures { λ r. ⌜ (r ≡ pinCount (now (file .entry)) (net .0)) × (r < 256) ⌝ }
+{
+    byte(file, net, 3)
+}
+
+// The net of pin p, 0 to 3.
+pub fn pin(file: &[u8], net: Net, p: usize) -> Net
+    requires { ⌜ HasRecord (now file) (net .0) × (p < 4) ⌝ }
+    ensures { λ r. ⌜ r .0 ≡ pin (now (file .entry)) (net .0) p ⌝ }
+{
+    Net(word(file, net, 4 + 2 * p))
+}
+
+pub fn rise(file: &[u8], net: Net) -> usize
+    requires { ⌜ HasRecord (now file) (net .0) ⌝ }
+    ensures { λ r. ⌜ (r ≡ rise (now (file .entry)) (net .0)) × (r < 256) ⌝ }
+{
+    byte(file, net, 12)
+}
+
+pub fn fall(file: &[u8], net: Net) -> usize
+    requires { ⌜ HasRecord (now file) (net .0) ⌝ }
+    ensures { λ r. ⌜ (r ≡ fall (now (file .entry)) (net .0)) × (r < 256) ⌝ }
+{
+    byte(file, net, 13)
+}
+
+pub fn allowed(file: &[u8], net: Net) -> usize
+    requires { ⌜ HasRecord (now file) (net .0) ⌝ }
+    ensures { λ r. ⌜ (r ≡ allowed (now (file .entry)) (net .0)) × (r < 256) ⌝ }
+{
+    byte(file, net, 18)
+}

@@ -1,0 +1,68 @@
+-- Laws of the codes of uncertainty sets.
+-- Assumes nothing.
+use mathlib.Core.Path.{_≡_, refl, sym}
+use mathlib.Core.Bool.{Bool, true, false, _&&_, _||_, Bool·beq}
+use Prim.Native.Nat.{ℕ, _+_, _*_, _/_, _%_, _≤_, _<_}
+use native.Mathlib.Omega.{arith}
+use native.Mathlib.Nat.{mul-add-mod-self-left}
+use lib.Dec.{eqb, ltb}
+use borrow.Author.Tests.{eqb-true, ltb-true}
+use Rattle.laws.specs.Below.{allBelow}
+use Rattle.laws.proofs.Tests.{and-left, and-right, or-cases}
+use Rattle.laws.proofs.Below.{all-at}
+use Rattle.excitation.specs.declared.Excitation.{Excitation}
+use Rattle.excitation.specs.UncertaintySet.{UncertaintySet, member, some, code, decode}
+use Rattle.excitation.proofs.Finite.{everySet, every-at, setOf}
+use Rattle.excitation.proofs.Sets.{level-same, some-gives}
+
+last-bit : (n q r : ℕ) → n ≡ 2 * q + r → r % 2 ≡ n % 2
+last-bit n q r e = rw e (sym (mul-add-mod-self-left 2 q r))
+
+-- The four high bits of a byte say nothing.
+pub decode-low : (n : ℕ) → decode (n % 16) ≡ decode n
+unfolding decode
+decode-low n =
+    let q = n / 16 in
+    rw (
+      last-bit n (8 * q) (n % 16) (omega arith),
+      last-bit (n / 2) (4 * q) (n % 16 / 2) (omega arith),
+      last-bit (n / 4) (2 * q) (n % 16 / 4) (omega arith),
+      last-bit (n / 8) q (n % 16 / 8) (omega arith),
+    )
+    refl
+
+pub code-decode : (n : ℕ) → n < 16 → code (decode n) ≡ n
+unfolding allBelow code decode
+code-decode n h = eqb-true _ _ (all-at 16 (λ n. eqb (code (decode n)) n) n refl h)
+
+pub code-below : (s : UncertaintySet) → code s < 16
+unfolding code
+code-below s = ltb-true _ _ (every-at (λ s. ltb (code s) 16) refl s)
+
+sameSet : UncertaintySet → UncertaintySet → Bool
+sameSet s t =
+    Bool·beq (s .has-l) (t .has-l) && (Bool·beq (s .has-h) (t .has-h) && (Bool·beq (s .has-hl) (t .has-hl) && Bool·beq (s .has-lh) (t .has-lh)))
+
+same-set : (s t : UncertaintySet) → sameSet s t ≡ true → s ≡ t
+unfolding sameSet
+same-set s t e =
+    let f = and-right (Bool·beq (s .has-l) (t .has-l)) _ e in
+    let g = and-right (Bool·beq (s .has-h) (t .has-h)) _ f in
+    let a = level-same (s .has-l) (t .has-l) (and-left _ _ e) in
+    let b = level-same (s .has-h) (t .has-h) (and-left _ _ f) in
+    let c = level-same (s .has-hl) (t .has-hl) (and-left _ _ g) in
+    let d = level-same (s .has-lh) (t .has-lh) (and-right (Bool·beq (s .has-hl) (t .has-hl)) _ g) in
+    λ i. setOf (a i) (b i) (c i) (d i)
+
+pub decode-code : (s : UncertaintySet) → decode (code s) ≡ s
+unfolding sameSet code decode
+decode-code s = same-set (decode (code s)) s (every-at (λ s. sameSet (decode (code s)) s) refl s)
+
+-- A number 1 to 15 codes a set that has a member.
+pub some-member : (n : ℕ) → 1 ≤ n → n < 16 → (e : Excitation) × (member e (decode n) ≡ true)
+unfolding allBelow decode
+some-member n low high =
+    or-cases (eqb n 0) (some (λ e. member e (decode n)))
+    (all-at 16 (λ n. eqb n 0 || some (λ e. member e (decode n))) n refl high)
+    (λ z. let e : n ≡ 0 = eqb-true _ _ z in absurd (omega arith))
+    (λ s. some-gives (λ e. member e (decode n)) s)

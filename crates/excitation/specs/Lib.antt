@@ -1,0 +1,4 @@
+pub mod Excitation
+pub mod UncertaintySet
+pub mod Table
+pub mod Examples

@@ -1,0 +1,102 @@
+-- Laws of what is defined over the numbers below n.
+-- Assumes nothing.
+use mathlib.Core.Path.{_≡_, refl, ap, _∙_}
+use mathlib.Core.Bool.{Bool, true, false, _&&_}
+use mathlib.Core.List.{List, [], _∷_, _++_}
+use mathlib.Core.Logic.{⊎-elim}
+use Prim.Native.Nat.{ℕ, zero, suc, _+_, _≤_, _<_, max}
+use native.Mathlib.Nat.{not-suc-le-zero, eq-or-lt-of-le, le-of-suc-le-suc}
+use native.Mathlib.Numerals.{add-one}
+use native.Mathlib.Omega.{arith}
+use lib.ListN.{length, getD, length-append, List·getD-append}
+use lib.Seq.{getD-at}
+use Rattle.laws.specs.Below.{allBelow, maxBelow, digit, countBelow, listBelow}
+use Rattle.laws.proofs.Tests.{and-left, and-right, and-both, and-second-fails, by-test}
+
+-- One number more, as a loop counts.
+
+pub all-next : (n : ℕ) (p : ℕ → Bool) → allBelow n p ≡ true → p n ≡ true → allBelow (n + 1) p ≡ true
+unfolding allBelow
+all-next n p s t = rw add-one (and-both s t)
+
+pub max-next : (n : ℕ) (f : ℕ → ℕ) → maxBelow (n + 1) f ≡ max (maxBelow n f) (f n)
+unfolding maxBelow
+max-next n f = rw add-one refl
+
+pub count-next : (n : ℕ) (p : ℕ → Bool) → countBelow (n + 1) p ≡ countBelow n p + digit (p n)
+unfolding countBelow
+count-next n p = rw add-one refl
+
+-- A test that passes at every number below n passes at each.
+pub all-at : (n : ℕ) (p : ℕ → Bool) (k : ℕ) → allBelow n p ≡ true → k < n → p k ≡ true
+unfolding allBelow
+all-at zero p k e h = absurd (not-suc-le-zero h)
+all-at (suc n) p k e h =
+    ⊎-elim (λ (q : k ≡ n). rw q (and-right (allBelow n p) (p n) e)) (λ l. all-at n p k (and-left (allBelow n p) (p n) e) l)
+    (eq-or-lt-of-le (le-of-suc-le-suc h))
+
+-- One failure fails the whole.
+pub all-fails : (n : ℕ) (p : ℕ → Bool) (k : ℕ) → k < n → p k ≡ false → allBelow n p ≡ false
+unfolding allBelow
+all-fails zero p k h e = absurd (not-suc-le-zero h)
+all-fails (suc n) p k h e =
+    ⊎-elim (λ (q : k ≡ n). and-second-fails (allBelow n p) (rw q at e)) (λ l. rw (all-fails n p k l e) refl)
+    (eq-or-lt-of-le (le-of-suc-le-suc h))
+
+-- At most n numbers below n pass, and n do exactly where all do.
+
+pub count-at-most : (n : ℕ) (p : ℕ → Bool) → countBelow n p ≤ n
+unfolding countBelow
+count-at-most zero p = omega arith
+count-at-most (suc n) p =
+    let h = count-at-most n p in
+    by-test (p n) (λ e. rw e (omega arith)) (λ e. rw e (omega arith))
+
+pub count-of-all : (n : ℕ) (p : ℕ → Bool) → allBelow n p ≡ true → countBelow n p ≡ n
+unfolding countBelow allBelow
+count-of-all zero p e = refl
+count-of-all (suc n) p e =
+    rw (count-of-all n p (and-left (allBelow n p) (p n) e), and-right (allBelow n p) (p n) e) (add-one n)
+
+pub all-of-count : (n : ℕ) (p : ℕ → Bool) → countBelow n p ≡ n → allBelow n p ≡ true
+unfolding countBelow allBelow
+all-of-count zero p e = refl
+all-of-count (suc n) p e =
+    let h = count-at-most n p in
+    by-test (p n)
+    (λ t. let q : countBelow n p + 1 ≡ suc n = rw t at e in and-both (all-of-count n p (omega arith)) t)
+    (λ t. let q : countBelow n p + 0 ≡ suc n = rw t at e in absurd (omega arith))
+
+pub not-all-of-count : (n : ℕ) (p : ℕ → Bool) → (countBelow n p ≡ n → ⊥) → allBelow n p ≡ false
+not-all-of-count n p h = by-test (allBelow n p) (λ t. absurd (h (count-of-all n p t))) (λ t. t)
+
+-- The list of the values of f below n has them in their places.
+
+pub list-length : {A : Type 0} (n : ℕ) (f : ℕ → A) → length (listBelow n f) ≡ n
+unfolding listBelow
+list-length zero f = refl
+list-length (suc n) f = length-append (listBelow n f) (f n ∷ []) ∙ rw (list-length n f) (add-one n)
+
+pub list-at : {A : Type 0} (n : ℕ) (f : ℕ → A) (k : ℕ) (d : A) → k < n → getD (listBelow n f) k d ≡ f k
+unfolding listBelow
+list-at zero f k d h = absurd (not-suc-le-zero h)
+list-at (suc n) f k d h =
+    ⊎-elim (λ (q : k ≡ n). rw q (getD-at (listBelow n f) (f n) [] d n (list-length n f)))
+    (λ l. List·getD-append (listBelow n f) _ d k (rw list-length l) ∙ list-at n f k d l)
+    (eq-or-lt-of-le (le-of-suc-le-suc h))
+
+-- Where p passes only at numbers below which it always passes, it passes exactly at the first ones.
+pub count-first : (n : ℕ) (p : ℕ → Bool) → ((k : ℕ) → k < n → p k ≡ true → allBelow k p ≡ true)
+    → (k : ℕ) → k < n → (k < countBelow n p → p k ≡ true) × (countBelow n p ≤ k → p k ≡ false)
+unfolding countBelow
+count-first zero p f k h = absurd (not-suc-le-zero h)
+count-first (suc n) p f k h =
+    by-test (p n)
+    (λ t. let all = f n (omega arith) t in
+    let count : countBelow n p + digit (p n) ≡ n + 1 = rw (t, count-of-all n p all) refl in
+    (λ l. ⊎-elim (λ (q : k ≡ n). rw q t) (λ m. all-at n p k all m) (eq-or-lt-of-le (le-of-suc-le-suc h)), λ l. absurd (omega arith)))
+    (λ t. let count : countBelow n p + digit (p n) ≡ countBelow n p + 0 = rw t refl in
+    let most = count-at-most n p in
+    ⊎-elim (λ (q : k ≡ n). (λ l. absurd (omega arith), λ l. rw q t))
+    (λ m. let rest = count-first n p (λ j l u. f j (omega arith) u) k m in (λ l. rest .0 (omega arith), λ l. rest .1 (omega arith)))
+    (eq-or-lt-of-le (le-of-suc-le-suc h)))

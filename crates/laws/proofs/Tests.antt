@@ -1,0 +1,49 @@
+-- Laws of tests: conjunctions and disjunctions that pass or fail.
+-- Assumes nothing.
+use mathlib.Core.Path.{_≡_, refl, ap, sym, _∙_}
+use mathlib.Core.Bool.{Bool, true, false, not, _&&_, _||_, and-eq-true-iff}
+use Prim.Native.Nat.{ℕ}
+use borrow.Author.Tests.{not-true, not-false}
+
+pub and-left : (a b : Bool) → (a && b) ≡ true → a ≡ true
+and-left a b e = and-eq-true-iff a b .0 e .0
+
+pub and-right : (a b : Bool) → (a && b) ≡ true → b ≡ true
+and-right a b e = and-eq-true-iff a b .0 e .1
+
+pub and-both : {a b : Bool} → a ≡ true → b ≡ true → (a && b) ≡ true
+and-both {a} {b} s t = and-eq-true-iff a b .1 (s, t)
+
+pub and-second-fails : (a : Bool) {b : Bool} → b ≡ false → (a && b) ≡ false
+and-second-fails true e = e
+and-second-fails false e = refl
+
+pub or-first : {a : Bool} (b : Bool) → a ≡ true → (a || b) ≡ true
+or-first b s = rw s refl
+
+pub or-second : (a : Bool) {b : Bool} → b ≡ true → (a || b) ≡ true
+or-second true s = refl
+or-second false s = s
+
+pub or-cases : {P : Type 0} (a b : Bool) → (a || b) ≡ true → (a ≡ true → P) → (b ≡ true → P) → P
+or-cases true b e f g = f refl
+or-cases false b e f g = g e
+
+-- A test either passes or fails.
+pub by-test : {P : Type 0} (b : Bool) → (b ≡ true → P) → (b ≡ false → P) → P
+by-test true f g = f refl
+by-test false f g = g refl
+
+-- What code learns of a definition's test t from its own test s of the same thing, turned over.
+pub refuted : {s t : Bool} → s ≡ t → not s ≡ true → t ≡ false
+refuted {s} e h = sym e ∙ not-true s h
+
+pub confirmed : {s t : Bool} → s ≡ t → not s ≡ false → t ≡ true
+confirmed {s} e h = sym e ∙ not-false s h
+
+-- The same where the code tests x, which is the definition's y.
+pub refuted-at : (p : ℕ → Bool) {x y : ℕ} {s : Bool} → s ≡ p x → x ≡ y → not s ≡ true → p y ≡ false
+refuted-at p e q h = sym (ap p q) ∙ refuted e h
+
+pub confirmed-at : (p : ℕ → Bool) {x y : ℕ} {s : Bool} → s ≡ p x → x ≡ y → not s ≡ false → p y ≡ true
+confirmed-at p e q h = sym (ap p q) ∙ confirmed e h

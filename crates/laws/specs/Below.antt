@@ -1,0 +1,39 @@
+-- Tests, counts, the greatest, products and lists over the numbers below n. Each is defined by one number more.
+use mathlib.Core.Bool.{Bool, true, false, _&&_, _||_}
+use mathlib.Core.List.{List, [], _∷_, _++_}
+use Prim.Native.Nat.{ℕ, zero, suc, _+_, _*_, max}
+
+-- Whether p passes at every number below n.
+unfoldable pub allBelow : ℕ → (ℕ → Bool) → Bool
+allBelow zero p = true
+allBelow (suc n) p = allBelow n p && p n
+
+-- Whether p passes at some number below n.
+unfoldable pub anyBelow : ℕ → (ℕ → Bool) → Bool
+anyBelow zero p = false
+anyBelow (suc n) p = anyBelow n p || p n
+
+-- The greatest value of f below n, 0 where there is none.
+unfoldable pub maxBelow : ℕ → (ℕ → ℕ) → ℕ
+maxBelow zero f = 0
+maxBelow (suc n) f = max (maxBelow n f) (f n)
+
+-- 1 where a test passes, 0 where it fails.
+abbrev pub digit : Bool → ℕ
+digit true = 1
+digit false = 0
+
+-- How many numbers below n pass p.
+unfoldable pub countBelow : ℕ → (ℕ → Bool) → ℕ
+countBelow zero p = 0
+countBelow (suc n) p = countBelow n p + digit (p n)
+
+-- The product of the values of f below n.
+unfoldable pub productBelow : ℕ → (ℕ → ℕ) → ℕ
+productBelow zero f = 1
+productBelow (suc n) f = productBelow n f * f n
+
+-- The values of f below n, in order.
+unfoldable pub listBelow : {A : Type 0} → ℕ → (ℕ → A) → List A
+listBelow zero f = []
+listBelow (suc n) f = listBelow n f ++ (f n ∷ [])
