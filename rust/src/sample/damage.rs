@@ -16,7 +16,7 @@ pub fn damage(random: &mut Random, file: &mut Vec<u8>) {
     let net = random.below(records);
     let other = random.below(records);
     let at = 20 * net;
-    match random.below(12) {
+    match random.below(13) {
         0 => file.truncate(random.below(file.len())),
         1 => file[at + random.below(20)] = random.byte(0, 255),
         2 | 3 => file[at + random.below(20)] = random.pick(&EDGES),
@@ -26,6 +26,7 @@ pub fn damage(random: &mut Random, file: &mut Vec<u8>) {
         7 | 8 => rewire(random, &mut file[at..at + 20], net),
         9 => drop(file.drain(at..at + 20)),
         10 => file.copy_within(at..at + 20, 20 * other),
+        11 => file.resize(file.len() + 1 + random.below(19), 0),
         _ => repeat(file, at, 20 * other),
     }
 }
