@@ -1,0 +1,50 @@
+/* Read through the C header: block S of document 01, two refused blocks and the empty file. */
+#include <inttypes.h>
+#include <stdio.h>
+#include <string.h>
+
+#include "zimgurav.h"
+
+enum { NUMBERS = 6, RECORD = 20 };
+
+static const uint8_t block_s[3 * RECORD] = {
+    1, 0, 0, 0, 0, 0, 0, 0, 0, 0, 0, 0, 0, 0, 0,  0, 0, 0, 15, 0,
+    9, 0, 1, 1, 0, 0, 0, 0, 0, 0, 0, 0, 1, 1, 10, 0, 0, 0, 0,  0,
+    8, 0, 1, 1, 0, 0, 0, 0, 0, 0, 0, 0, 1, 1, 10, 0, 0, 0, 0,  0,
+};
+
+/* Returns how many of the six numbers are not as expected. */
+static int check(const char *name, const uint8_t *file, size_t length, const uint64_t expected[NUMBERS])
+{
+    uint64_t answer[NUMBERS];
+    int wrong = 0;
+
+    memset(answer, 0xEE, sizeof answer);
+    zimgurav_read(file, length, answer);
+    for (int i = 0; i < NUMBERS; i++) {
+        if (answer[i] != expected[i]) {
+            fprintf(stderr, "%s: answer[%d] is %" PRIu64 ", not %" PRIu64 "\n", name, i, answer[i], expected[i]);
+            wrong++;
+        }
+    }
+    return wrong;
+}
+
+int main(void)
+{
+    const uint64_t counts[NUMBERS] = {0, 3, 1};
+    const uint64_t out_of_range[NUMBERS] = {9, 2};
+    const uint64_t ragged[NUMBERS] = {1};
+    const uint64_t no_record[NUMBERS] = {3};
+    uint8_t without_delay[sizeof block_s];
+    int wrong = 0;
+
+    memcpy(without_delay, block_s, sizeof block_s);
+    without_delay[2 * RECORD + 2] = 0;
+
+    wrong += check("block S", block_s, sizeof block_s, counts);
+    wrong += check("block S, net 2 without a delay", without_delay, sizeof without_delay, out_of_range);
+    wrong += check("block S, one byte short", block_s, sizeof block_s - 1, ragged);
+    wrong += check("empty file", block_s, 0, no_record);
+    return wrong != 0;
+}

@@ -1,0 +1,98 @@
+//! Records and random valid blocks.
+
+use super::Random;
+use crate::kind::{AND, BUF, INPUT, NOT};
+
+/// The 20 bytes of a net.
+pub type Record = [u8; 20];
+
+/// An input that allows the excitations of `allowed`, its byte 18.
+pub fn input(allowed: u8) -> Record {
+    let mut record = [0; 20];
+    record[0] = INPUT;
+    record[18] = allowed;
+    record
+}
+
+/// A gate with these pins, at contact 0, with delay, rise and fall of 1 tick and peaks of 0.
+pub fn gate(kind: u8, pins: &[u16]) -> Record {
+    let mut record = [0; 20];
+    record[0] = kind;
+    record[2] = 1;
+    record[3] = pins.len() as u8;
+    for (place, pin) in record[4..12].chunks_exact_mut(2).zip(pins) {
+        place.copy_from_slice(&pin.to_le_bytes());
+    }
+    record[12] = 1;
+    record[13] = 1;
+    record
+}
+
+/// What a random block looks like.
+pub struct Shape {
+    /// How many inputs: 1 to 64.
+    pub inputs: usize,
+    /// How many gates.
+    pub gates: usize,
+    /// A pin is one of this many nets before its gate, at least 1. The fewer, the deeper the block.
+    pub reach: usize,
+    /// The greatest delay, 1 to 63.
+    pub delay: u8,
+}
+
+impl Shape {
+    /// A random shape of a block of `records` records, at least 1.
+    pub fn random(random: &mut Random, records: usize) -> Self {
+        let few = 1 + random.below(8);
+        let any = 1 + random.below(64);
+        let inputs = random.pick(&[1, few, any, 64]).min(records);
+        Shape {
+            inputs,
+            gates: records - inputs,
+            reach: random.pick(&[1, 2, 8, 64, 1024]),
+            delay: random.pick(&[1, 6, 63]),
+        }
+    }
+
+    /// A random block of this shape that Read accepts as long as it has at most 1,024 records.
+    pub fn block(&self, random: &mut Random) -> Vec<Record> {
+        let mut records = Vec::with_capacity(self.inputs + self.gates);
+        let mut arrivals = vec![0; self.inputs];
+        for _ in 0..self.inputs {
+            records.push(input(random.byte(1, 15)));
+        }
+        for _ in 0..self.gates {
+            let (record, arrival) = self.random_gate(random, &arrivals);
+            records.push(record);
+            arrivals.push(arrival);
+        }
+        records
+    }
+
+    /// A random gate after the nets with these arrivals, and its own arrival.
+    fn random_gate(&self, random: &mut Random, arrivals: &[u8]) -> (Record, u8) {
+        let kind = random.byte(AND, BUF);
+        let pin_count = if kind < NOT { 2 + random.below(3) } else { 1 };
+        let reach = self.reach.min(arrivals.len());
+        let mut pins = [0; 4];
+        for pin in &mut pins[..pin_count] {
+            let net = arrivals.len() - 1 - random.below(reach);
+            // Nothing can follow an arrival of 255, so that such a pin is moved to an input.
+            *pin = if arrivals[net] < 255 {
+                net
+            } else {
+                random.below(self.inputs)
+            } as u16;
+        }
+        let mut record = gate(kind, &pins[..pin_count]);
+        let pin_arrivals = pins.map(|pin| arrivals[usize::from(pin)]);
+        let latest = pin_arrivals.into_iter().max().unwrap_or(0);
+        let delay = random.byte(1, self.delay.min(255 - latest));
+        record[1] = random.byte(0, 15);
+        record[2] = delay;
+        record[12] = random.byte(1, 127);
+        record[13] = random.byte(1, 127);
+        record[14..18].copy_from_slice(&random.bits().to_le_bytes()[..4]);
+        (record, latest + delay)
+    }
+}
