@@ -101,7 +101,7 @@ accepted file nets inputs e =
     let f = file-sound file (both .0) in
     let n : netCount file ≡ nets = v .1 in
     let sound : (net : ℕ) → net < nets → verdict (recordChecks file net) ≡ Accepted =
-      λ net h. each-record file (netCount file) 0 (both .1) net (omega arith) (omega arith) in
+    λ net h. each-record file (netCount file) 0 (both .1) net (omega arith) (omega arith) in
     let i : inputsBelow file nets ≡ inputs = ap (inputsBelow file) (sym n) ∙ v .2 in
     let are = inputs-are file nets sound in
     let most = count-at-most nets (isInput file) in
@@ -115,4 +115,5 @@ accepted file nets inputs e =
       inputs-first = omega arith;
       input = λ net h. input-record file net (fields-sound file net (sound net (omega arith))) (are net (omega arith) .0 (omega arith)) .0;
       gate = λ net low high. gate-record file net (fields-sound file net (sound net high)) (are net high .1 (omega arith));
-      arrives = λ net h. arrival-sound file net (sound net h) }
+      arrives = λ net h. arrival-sound file net (sound net h);
+    }

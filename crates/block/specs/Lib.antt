@@ -4,4 +4,5 @@ pub mod Block
 pub mod Verdict
 pub mod Refusals
 pub mod Accepted
+pub mod Examples
 pub mod Read

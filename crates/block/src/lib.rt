@@ -16,8 +16,28 @@ pub use kind::gate_rule;
 // A net's number: the position of its record in the file.
 pub struct Net(pub usize);
 
-// A search case's number: the position of its record in the case store. Never read as a net's number.
+impl Net {
+    // Where the record starts in the file.
+    pub fn start(self) -> usize
+        requires { ⌜ self .0 < 1024 ⌝ }
+        ensures { λ r. ⌜ r ≡ 20 * self .0 ⌝ }
+    {
+        20 * self.0
+    }
+}
+
+// The number of a search case: the position of its record in the case store. It is never read as a net's number.
 pub struct Case(pub usize);
+
+impl Case {
+    // Where the record starts in the case store. A budget of 10,000 splits makes at most 30,001 cases.
+    pub fn start(self) -> usize
+        requires { ⌜ self .0 < 30001 ⌝ }
+        ensures { λ r. ⌜ r ≡ 72 * self .0 ⌝ }
+    {
+        72 * self.0
+    }
+}
 
 // Document 01's refusal.
 pub struct Refusal {

@@ -16,8 +16,8 @@ pub fn byte(file: &[u8], net: Net, k: usize) -> usize
     requires { ⌜ HasRecord (now file) (net .0) × (k < 20) ⌝ }
     ensures { λ r. ⌜ (r ≡ byteAt (now (file .entry)) (net .0) k) × (r < 256) ⌝ }
 {
-    let n = net.0;
-    wide(file[20 * n + k])
+    let start = net.start();
+    wide(file[start + k])
 }
 
 // The two-byte number at byte k, the low byte first.

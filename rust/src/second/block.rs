@@ -1,61 +1,86 @@
-//! The block file.
+//! One record of the block file of document 01, taken apart into its fields.
+//!
+//! A record is 20 bytes. Nothing is checked here: a field holds whatever its
+//! bytes say, and the refusals are left to the reader.
 
-/// Bytes of a record.
-pub const RECORD_LENGTH: usize = 20;
+use crate::kind;
 
-/// One record. The net number is the record's position from 0.
-#[derive(Clone, Copy, Default, PartialEq, Eq)]
+/// The length of a record in bytes.
+pub const RECORD_BYTES: usize = 20;
+
+/// A record of the block file, field by field in the order of its bytes.
 pub struct Record {
-    /// Byte 0, one of [`crate::kind`].
+    /// Byte 0: 1 input, 2 AND, 3 NAND, 4 OR, 5 NOR, 6 XOR, 7 XNOR, 8 NOT, 9 BUF.
     pub kind: u8,
-    /// Byte 1, 0 to 15.
+    /// Byte 1: the contact, 0 to 15.
     pub contact: u8,
-    /// Byte 2, 1 to 63 ticks.
+    /// Byte 2: the delay D, 1 to 63 ticks.
     pub delay: u8,
-    /// Byte 3.
+    /// Byte 3: how many of the four pins are used.
     pub pin_count: u8,
-    /// Bytes 4 to 11: four pin nets. Unused ones are 0.
+    /// Bytes 4 to 11: the four pin nets. Unused ones are 0.
     pub pins: [u16; 4],
-    /// Byte 12, 1 to 127 ticks.
+    /// Byte 12: the rise r, 1 to 127 ticks.
     pub rise: u8,
-    /// Byte 13, 1 to 127 ticks.
+    /// Byte 13: the fall f, 1 to 127 ticks.
     pub fall: u8,
-    /// Bytes 14 and 15, microamperes.
+    /// Bytes 14 and 15: the peak for lh, in microamperes.
     pub peak_lh: u16,
-    /// Bytes 16 and 17, microamperes.
+    /// Bytes 16 and 17: the peak for hl, in microamperes.
     pub peak_hl: u16,
-    /// Byte 18, inputs only: the allowed excitations, a sum of 1 (l), 2 (h), 4 (hl), 8 (lh).
+    /// Byte 18, inputs only: the allowed excitations, a sum of 1 (l), 2 (h),
+    /// 4 (hl), 8 (lh).
     pub allowed: u8,
-    /// Byte 19, which is 0.
-    pub last: u8,
+    /// Byte 19: always 0.
+    pub byte_19: u8,
 }
 
 impl Record {
-    /// The fields of a record. Two-byte numbers have the low byte first.
-    pub fn parse(bytes: &[u8; RECORD_LENGTH]) -> Self {
-        let two_bytes = |at: usize| u16::from_le_bytes([bytes[at], bytes[at + 1]]);
+    /// Takes the fields from the 20 bytes of a record.
+    pub fn parse(bytes: &[u8; RECORD_BYTES]) -> Record {
         Record {
             kind: bytes[0],
             contact: bytes[1],
             delay: bytes[2],
             pin_count: bytes[3],
-            pins: [two_bytes(4), two_bytes(6), two_bytes(8), two_bytes(10)],
+            pins: [
+                two_bytes(bytes, 4),
+                two_bytes(bytes, 6),
+                two_bytes(bytes, 8),
+                two_bytes(bytes, 10),
+            ],
             rise: bytes[12],
             fall: bytes[13],
-            peak_lh: two_bytes(14),
-            peak_hl: two_bytes(16),
+            peak_lh: two_bytes(bytes, 14),
+            peak_hl: two_bytes(bytes, 16),
             allowed: bytes[18],
-            last: bytes[19],
+            byte_19: bytes[19],
         }
     }
 
-    /// The pins that a record with at most four of them uses.
-    pub fn used_pins(&self) -> &[u16] {
-        &self.pins[..usize::from(self.pin_count)]
+    /// Whether the record is an input.
+    pub fn is_input(&self) -> bool {
+        self.kind == kind::INPUT
     }
 
-    /// The pins that a record with at most four of them leaves free.
-    pub fn unused_pins(&self) -> &[u16] {
-        &self.pins[usize::from(self.pin_count)..]
+    /// Whether the record is a gate.
+    pub fn is_gate(&self) -> bool {
+        matches!(self.kind, kind::AND..=kind::BUF)
     }
+
+    /// The pins within the pin count.
+    pub fn used_pins(&self) -> impl Iterator<Item = u16> + '_ {
+        self.pins.iter().copied().take(self.pin_count.into())
+    }
+
+    /// The pins past the pin count.
+    pub fn unused_pins(&self) -> impl Iterator<Item = u16> + '_ {
+        self.pins.iter().copied().skip(self.pin_count.into())
+    }
+}
+
+/// The two-byte number that starts at byte `at`. Two-byte numbers have the low
+/// byte first.
+fn two_bytes(bytes: &[u8; RECORD_BYTES], at: usize) -> u16 {
+    u16::from_le_bytes([bytes[at], bytes[at + 1]])
 }

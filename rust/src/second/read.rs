@@ -1,157 +1,181 @@
-//! Read: refusals 1 to 10 in checking order.
+//! Read: takes a block file and returns its counts of nets and inputs, or the
+//! first of refusals 1 to 10 of document 01 that applies.
 //!
-//! Each check is a function that answers whether its refusal holds. The checks on one record are
-//! made in order, so that each may count on the ones before it.
+//! Whole-file checks come first, then records by net number, with checks 4 to
+//! 10 made on one record before the next. Each check is one function that says
+//! whether its refusal applies; the functions stand in the order of document 01.
 
-use super::block::{Record, RECORD_LENGTH};
-use crate::kind::{AND, BUF, INPUT, NOT, XNOR};
-use crate::{Counts, Refusal};
+use super::block::{Record, RECORD_BYTES};
+use crate::{kind, Counts, Refusal};
 
-/// Takes the file and returns its counts of nets and inputs.
+/// The most records a block may have.
+const MOST_RECORDS: usize = 1024;
+
+/// The most inputs a block may have.
+const MOST_INPUTS: u64 = 64;
+
+/// The latest arrival a net may have, in ticks.
+const LATEST_ARRIVAL: u16 = 255;
+
+/// What the records before the one being checked have shown.
+struct Before {
+    /// How many of them are inputs.
+    inputs: u64,
+    /// How many of them are gates.
+    gates: u64,
+    /// The arrival of each of them, by net number.
+    arrivals: [u16; MOST_RECORDS],
+}
+
+/// Read takes the file and returns its counts of nets and inputs. A refusal
+/// returns its number and a place.
 pub fn read(file: &[u8]) -> Result<Counts, Refusal> {
-    if let Some(number) = refusal_of_file(file) {
-        return Err(Refusal { number, place: 0 });
-    }
-    let (records, _) = file.as_chunks::<RECORD_LENGTH>();
-    let mut inputs = 0;
-    let mut arrivals = Vec::with_capacity(records.len());
+    check_file(file)?;
+    let mut before = Before {
+        inputs: 0,
+        gates: 0,
+        arrivals: [0; MOST_RECORDS],
+    };
+    let (records, _) = file.as_chunks::<RECORD_BYTES>();
     for (net, bytes) in records.iter().enumerate() {
-        let place = net as u64;
         let record = Record::parse(bytes);
-        if let Some(number) = refusal_of_fields(&record, net, inputs) {
-            return Err(Refusal { number, place });
-        }
-        let arrival = arrival(&record, &arrivals);
-        if arrival_is_too_late(arrival) {
-            return Err(Refusal { number: 10, place });
-        }
-        arrivals.push(arrival);
-        if record.kind == INPUT {
-            inputs += 1;
+        check_record(&record, net, &before)?;
+        before.arrivals[net] = arrival(&record, &before);
+        if record.is_input() {
+            before.inputs += 1;
+        } else {
+            before.gates += 1;
         }
     }
     Ok(Counts {
-        nets: records.len() as u64,
-        inputs: inputs as u64,
+        nets: before.inputs + before.gates,
+        inputs: before.inputs,
     })
 }
 
-/// The first of the whole-file checks, 1 to 3, that refuses.
-fn refusal_of_file(file: &[u8]) -> Option<u64> {
-    if length_is_ragged(file) {
-        Some(1)
-    } else if records_are_too_many(file) {
-        Some(2)
-    } else if first_is_no_input(file) {
-        Some(3)
+/// The whole-file checks, 1 to 3. Their place is 0.
+fn check_file(file: &[u8]) -> Result<(), Refusal> {
+    refuse_if(length_is_not_a_multiple_of_20(file), 1, 0)?;
+    refuse_if(more_than_1024_records(file), 2, 0)?;
+    refuse_if(no_record_or_first_is_not_an_input(file), 3, 0)
+}
+
+/// The checks of one record, 4 to 10. Their place is the net.
+fn check_record(record: &Record, net: usize, before: &Before) -> Result<(), Refusal> {
+    let place = net as u64;
+    refuse_if(kind_is_unknown(record), 4, place)?;
+    refuse_if(input_is_after_a_gate_or_the_65th(record, before), 5, place)?;
+    refuse_if(pin_count_is_wrong(record), 6, place)?;
+    refuse_if(byte_meant_to_be_zero_is_not(record), 7, place)?;
+    refuse_if(used_pin_is_not_below_its_net(record, net), 8, place)?;
+    refuse_if(value_is_outside_its_range(record), 9, place)?;
+    refuse_if(arrival_exceeds_255(record, before), 10, place)
+}
+
+/// Returns the refusal of this number and place if something is wrong.
+fn refuse_if(wrong: bool, number: u64, place: u64) -> Result<(), Refusal> {
+    if wrong {
+        Err(Refusal { number, place })
     } else {
-        None
+        Ok(())
     }
 }
 
-/// The first of the checks 4 to 9 that refuses a record, `inputs` being how many stand before it.
-fn refusal_of_fields(record: &Record, net: usize, inputs: usize) -> Option<u64> {
-    if kind_is_unknown(record) {
-        Some(4)
-    } else if input_is_misplaced(record, net, inputs) {
-        Some(5)
-    } else if pin_count_is_wrong(record) {
-        Some(6)
-    } else if byte_is_stray(record) {
-        Some(7)
-    } else if pin_is_not_below(record, net) {
-        Some(8)
-    } else if field_is_out_of_range(record) {
-        Some(9)
-    } else {
-        None
+/// Refusal 1: The length is not a multiple of 20.
+fn length_is_not_a_multiple_of_20(file: &[u8]) -> bool {
+    !file.len().is_multiple_of(RECORD_BYTES)
+}
+
+/// Refusal 2: There are more than 1,024 records.
+fn more_than_1024_records(file: &[u8]) -> bool {
+    file.len() / RECORD_BYTES > MOST_RECORDS
+}
+
+/// Refusal 3: There is no record, or the first kind is not 1.
+///
+/// The kind is byte 0 of a record, so the first kind is byte 0 of the file.
+fn no_record_or_first_is_not_an_input(file: &[u8]) -> bool {
+    match file.first() {
+        None => true,
+        Some(&first_kind) => first_kind != kind::INPUT,
     }
 }
 
-/// 1. The length is not a multiple of 20.
-fn length_is_ragged(file: &[u8]) -> bool {
-    !file.len().is_multiple_of(RECORD_LENGTH)
-}
-
-/// 2. There are more than 1,024 records.
-fn records_are_too_many(file: &[u8]) -> bool {
-    file.len() / RECORD_LENGTH > 1024
-}
-
-/// 3. There is no record, or the first kind is not 1.
-fn first_is_no_input(file: &[u8]) -> bool {
-    file.first() != Some(&INPUT)
-}
-
-/// 4. The kind is 0 or above 9.
+/// Refusal 4: The kind is 0 or above 9.
 fn kind_is_unknown(record: &Record) -> bool {
-    record.kind == 0 || record.kind > 9
+    record.kind == 0 || record.kind > kind::BUF
 }
 
-/// 5. An input stands after a gate, or is the 65th.
-fn input_is_misplaced(record: &Record, net: usize, inputs: usize) -> bool {
-    let after_a_gate = inputs < net;
-    record.kind == INPUT && (after_a_gate || inputs == 64)
+/// Refusal 5: An input stands after a gate, or is the 65th.
+fn input_is_after_a_gate_or_the_65th(record: &Record, before: &Before) -> bool {
+    record.is_input() && (before.gates > 0 || before.inputs == MOST_INPUTS)
 }
 
-/// 6. A gate's pin count is wrong for its kind.
+/// Refusal 6: A gate's pin count is wrong for its kind.
+///
+/// Kinds 2 to 5 take 2 to 4 pins, as do 6 and 7; 8 and 9 take 1. An input is no
+/// gate, so this refusal never falls on it.
 fn pin_count_is_wrong(record: &Record) -> bool {
     match record.kind {
-        AND..=XNOR => !(2..=4).contains(&record.pin_count),
-        NOT | BUF => record.pin_count != 1,
+        kind::AND..=kind::NOR | kind::XOR..=kind::XNOR => !(2..=4).contains(&record.pin_count),
+        kind::NOT..=kind::BUF => record.pin_count != 1,
         _ => false,
     }
 }
 
-/// 7. A non-zero byte stands in bytes 1 to 17 or 19 of an input, or in an unused pin, byte 18 or
-///    byte 19 of a gate.
-fn byte_is_stray(record: &Record) -> bool {
-    if record.kind == INPUT {
-        let nothing_else = Record {
-            kind: record.kind,
-            allowed: record.allowed,
-            ..Record::default()
-        };
-        *record != nothing_else
+/// Refusal 7: A non-zero byte stands in bytes 1 to 17 or 19 of an input, or in
+/// an unused pin, byte 18 or byte 19 of a gate.
+fn byte_meant_to_be_zero_is_not(record: &Record) -> bool {
+    if record.is_input() {
+        record.contact != 0
+            || record.delay != 0
+            || record.pin_count != 0
+            || record.pins != [0; 4]
+            || record.rise != 0
+            || record.fall != 0
+            || record.peak_lh != 0
+            || record.peak_hl != 0
+            || record.byte_19 != 0
     } else {
-        let pin_is_stray = record.unused_pins().iter().any(|&pin| pin != 0);
-        pin_is_stray || record.allowed != 0 || record.last != 0
+        record.unused_pins().any(|pin| pin != 0) || record.allowed != 0 || record.byte_19 != 0
     }
 }
 
-/// 8. A used pin is not below its own net.
-fn pin_is_not_below(record: &Record, net: usize) -> bool {
-    record
-        .used_pins()
-        .iter()
-        .any(|&pin| usize::from(pin) >= net)
+/// Refusal 8: A used pin is not below its own net.
+fn used_pin_is_not_below_its_net(record: &Record, net: usize) -> bool {
+    record.used_pins().any(|pin| usize::from(pin) >= net)
 }
 
-/// 9. A gate's contact, delay, rise or fall, or an input's byte 18 (1 to 15), is outside its range.
-fn field_is_out_of_range(record: &Record) -> bool {
-    if record.kind == INPUT {
-        !(1..=15).contains(&record.allowed)
-    } else {
+/// Refusal 9: A gate's contact, delay, rise or fall, or an input's byte 18 (1 to
+/// 15), is outside its range.
+///
+/// The contact is 0 to 15, the delay 1 to 63, the rise and the fall each 1 to 127.
+fn value_is_outside_its_range(record: &Record) -> bool {
+    if record.is_gate() {
         record.contact > 15
             || !(1..=63).contains(&record.delay)
             || !(1..=127).contains(&record.rise)
             || !(1..=127).contains(&record.fall)
+    } else {
+        !(1..=15).contains(&record.allowed)
     }
 }
 
-/// 10. The arrival exceeds 255.
-fn arrival_is_too_late(arrival: u32) -> bool {
-    arrival > 255
+/// Refusal 10: The arrival exceeds 255.
+fn arrival_exceeds_255(record: &Record, before: &Before) -> bool {
+    arrival(record, before) > LATEST_ARRIVAL
 }
 
 /// Arrival: 0 for an input; for a gate the greatest arrival of its pins plus D.
-fn arrival(record: &Record, arrivals: &[u32]) -> u32 {
-    if record.kind == INPUT {
+///
+/// The record has passed checks 4 to 9, so its pins are nets before it.
+fn arrival(record: &Record, before: &Before) -> u16 {
+    if record.is_input() {
         return 0;
     }
     let mut greatest = 0;
-    for &pin in record.used_pins() {
-        greatest = greatest.max(arrivals[usize::from(pin)]);
+    for pin in record.used_pins() {
+        greatest = greatest.max(before.arrivals[usize::from(pin)]);
     }
-    greatest + u32::from(record.delay)
+    greatest + u16::from(record.delay)
 }

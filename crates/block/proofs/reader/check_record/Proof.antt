@@ -45,11 +45,12 @@ returns-2 c =
     let start = c .before .before .before .before .before .before .before .before in
     let sound = sym (c .before .before .before .before .before .before .check-fields .ensures) ∙ c .before .before .before .before .enum-told .given .1 in
     let a : c .before .before .arrival .result ≡ arrival (start .args .file .now) (start .args .net .0) =
-      c .before .before .arrival .ensures ∙ ap (λ e. arrivalFrom (start .args .file .now) e (start .args .net .0)) (start .pre .1 .arrived) in
+    c .before .before .arrival .ensures ∙ ap (λ e. arrivalFrom (start .args .file .now) e (start .args .net .0)) (start .pre .1 .arrived) in
     record {
       judged = c .refused .ensures ∙ sym (arrives-late _ _ sound (rw a at (c .before .if1 .taken)));
       sized = start .pre .1 .sized;
-      arrived = λ e. apart _ (sym (c .refused .ensures) ∙ e) }
+      arrived = λ e. apart _ (sym (c .refused .ensures) ∙ e);
+    }
 
 -- src/reader.rt:68:20
 cast-arrivals : tie.Need-cast-arrivals
@@ -65,12 +66,13 @@ returns-3 c =
     let start = c .before .before .before .before .before .before .before in
     let sound = sym (c .before .before .before .before .before .check-fields .ensures) ∙ c .before .before .before .enum-told .given .1 in
     let a : c .before .arrival .result ≡ arrival (start .args .file .now) (start .args .net .0) =
-      c .before .arrival .ensures ∙ ap (λ e. arrivalFrom (start .args .file .now) e (start .args .net .0)) (start .pre .1 .arrived) in
+    c .before .arrival .ensures ∙ ap (λ e. arrivalFrom (start .args .file .now) e (start .args .net .0)) (start .pre .1 .arrived) in
     let kept : c .before .arrival .result % 256 ≡ c .before .arrival .result = omega arith in
     record {
       judged = sym (record-passes _ _ sound (rw a at (c .if1 .left)));
       sized = simp length-set (start .pre .1 .sized);
-      arrived = λ e. arrived-next _ _ _ _ (omega arith) (start .pre .1 .arrived) (kept ∙ a) }
+      arrived = λ e. arrived-next _ _ _ _ (omega arith) (start .pre .1 .arrived) (kept ∙ a);
+    }
 
 pub check-record-spec : {M : Type 1} → statement M
 check-record-spec =

@@ -65,7 +65,7 @@ loop-again c =
     let below = start .pre .1 .pin-below (l .p) (omega arith) in
     let source = c .before .before .before .pin .ensures in
     let here : c .before .wide .result ≡ getD (take (start .args .net .0) (start .args .earlier .now)) (pin (start .args .file .now) (start .args .net .0) (l .p)) 0 =
-      c .before .wide .ensures .0 ∙ ap (λ k. getD (start .args .earlier .now) k 0) source ∙ sym (getD-take _ (start .args .earlier .now) _ 0 below) in
+    c .before .wide .ensures .0 ∙ ap (λ k. getD (start .args .earlier .now) k 0) source ∙ sym (getD-take _ (start .args .earlier .now) _ 0 below) in
     (search needs, omega arith, c .greater .ensures ∙ rw (l .inv .2, here) (sym (max-next (l .p) _)))
 
 -- src/reader.rt:26:1
