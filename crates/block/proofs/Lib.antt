@@ -1,5 +1,6 @@
 pub mod Verdicts
 pub mod Fields
+pub mod Gates
 pub mod Records
 pub mod Accepted
 pub mod Examples

@@ -1,10 +1,14 @@
--- Document 01's blocks S and F, and what the definitions say of them.
+-- Document 01's blocks S and F and gates of three pins, and what the definitions say of them.
 use mathlib.Core.Path.{_≡_}
 use mathlib.Core.List.{List, [], _∷_}
 use Prim.Native.Nat.{ℕ}
 use lib.ListN.{replicate}
 use Rattle.block.specs.declared.ReadAnswer.the-variants as answer
 use Rattle.block.specs.Record.{File}
+use Rattle.excitation.specs.Excitation.{l, h, lh}
+use Rattle.excitation.specs.UncertaintySet.{code, decode}
+use Rattle.block.specs.Kind.{NAND, NOR, XNOR, ruleOf}
+use Rattle.block.specs.Gate.{gateExcitation, gateSet}
 use Rattle.block.specs.Block.{arrivals, patternCount, coneSize, quietTick}
 use Rattle.block.specs.Verdict.{refusal}
 use Rattle.block.specs.Refusals.{readOf}
@@ -26,6 +30,10 @@ blockF =
     ∷ 3 ∷ 1 ∷ 2 ∷ 2 ∷ 1 ∷ 0 ∷ 2 ∷ 0 ∷ 0 ∷ 0 ∷ 0 ∷ 0 ∷ 2 ∷ 2 ∷ 30 ∷ 0 ∷ 31 ∷ 0 ∷ 0 ∷ 0 ∷ []
 
 pub record BlockExamples : Type 0 where
+  pub nand-of-three : gateExcitation (ruleOf NAND) h (h ∷ h ∷ []) ≡ l
+  pub nor-of-three : gateExcitation (ruleOf NOR) l (l ∷ l ∷ []) ≡ h
+  pub xnor-of-three : gateExcitation (ruleOf XNOR) lh (h ∷ l ∷ []) ≡ lh
+  pub nand-sets-of-three : code (gateSet (ruleOf NAND) (decode 12) (decode 2 ∷ decode 2 ∷ [])) ≡ 12
   pub read-S : readOf blockS ≡ answer.Counts 3 1
   pub read-F : readOf blockF ≡ answer.Counts 4 2
   pub read-empty : readOf [] ≡ answer.Refused (refusal 3 0)

@@ -1,5 +1,6 @@
 pub mod Record
 pub mod Kind
+pub mod Gate
 pub mod Block
 pub mod Verdict
 pub mod Refusals

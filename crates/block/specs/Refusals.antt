@@ -41,8 +41,11 @@ unfoldable pub inputSpareZero : File → ℕ → Bool
 inputSpareZero file net = zeroBytes file net 1 17 && zeroBytes file net 19 1
 
 -- .. or in an unused pin, byte 18 or byte 19 of a gate.
+unfoldable pub unusedPinsZero : File → ℕ → Bool
+unusedPinsZero file net = allBelow (4 - pinCount file net) (λ i. eqb (pin file net (pinCount file net + i)) 0)
+
 unfoldable pub gateSpareZero : File → ℕ → Bool
-gateSpareZero file net = zeroBytes file net (4 + 2 * pinCount file net) (8 - 2 * pinCount file net) && zeroBytes file net 18 2
+gateSpareZero file net = unusedPinsZero file net && zeroBytes file net 18 2
 
 -- 6. A gate's pin count is wrong for its kind.
 unfoldable pub pinCountRight : File → ℕ → Bool

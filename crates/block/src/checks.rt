@@ -5,7 +5,7 @@ ghost use Rattle.block.specs.declared.Verdict.the-variants.{Refused};
 ghost use Rattle.block.specs.Record.{HasRecord, pinCount};
 ghost use Rattle.block.specs.Block.{inputsBelow};
 ghost use Rattle.block.specs.Verdict.{refusal, verdict};
-ghost use Rattle.block.specs.Refusals.{within, zeroBytes, inputSpareZero, gateSpareZero, pinCountRight, pinsBelow, gateInRange, inputChecks, gateChecks, fieldChecks};
+ghost use Rattle.block.specs.Refusals.{within, zeroBytes, inputSpareZero, unusedPinsZero, gateSpareZero, pinCountRight, pinsBelow, gateInRange, inputChecks, gateChecks, fieldChecks};
 use super::Net;
 use super::Refusal;
 use super::Verdict;
@@ -68,13 +68,30 @@ fn input_spare_zero(file: &[u8], net: Net) -> bool
     zero_bytes(file, net, 19, 1)
 }
 
+// Whether the unused pins of a gate are 0.
+fn unused_pins_zero(file: &[u8], net: Net) -> bool
+    requires { ⌜ HasRecord (now file) (net .0) × (pinCount (now file) (net .0) ≤ 4) ⌝ }
+    ensures { λ r. ⌜ r ≡ unusedPinsZero (now (file .entry)) (net .0) ⌝ }
+{
+    let used = record::pin_count(file, net);
+    let unused = 4 - used;
+    let mut i: usize = 0;
+    while i < unused {
+        let source = record::pin(file, net, used + i);
+        if source.0 != 0 {
+            return false;
+        }
+        i += 1;
+    }
+    true
+}
+
 // Check 7 of a gate.
 fn gate_spare_zero(file: &[u8], net: Net) -> bool
     requires { ⌜ HasRecord (now file) (net .0) × (pinCount (now file) (net .0) ≤ 4) ⌝ }
     ensures { λ r. ⌜ r ≡ gateSpareZero (now (file .entry)) (net .0) ⌝ }
 {
-    let used = 2 * record::pin_count(file, net);
-    if !zero_bytes(file, net, 4 + used, 8 - used) {
+    if !unused_pins_zero(file, net) {
         return false;
     }
     zero_bytes(file, net, 18, 2)

@@ -60,7 +60,7 @@ decode-code s = same-set (decode (code s)) s (every-at (λ s. sameSet (decode (c
 
 -- A number 1 to 15 codes a set that has a member.
 pub some-member : (n : ℕ) → 1 ≤ n → n < 16 → (e : Excitation) × (member e (decode n) ≡ true)
-unfolding allBelow decode
+unfolding allBelow decode member
 some-member n low high =
     or-cases (eqb n 0) (some (λ e. member e (decode n)))
     (all-at 16 (λ n. eqb n 0 || some (λ e. member e (decode n))) n refl high)

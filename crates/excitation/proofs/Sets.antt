@@ -10,6 +10,7 @@ use Rattle.excitation.specs.UncertaintySet.{UncertaintySet, member, _∈
 use Rattle.excitation.proofs.Finite.{for-each}
 
 pub member-where : (p : Excitation → Bool) (e : Excitation) → member e (setWhere p) ≡ p e
+unfolding member
 member-where p = for-each (λ e. member e (setWhere p) ≡ p e) refl refl refl refl
 
 pub some-from : (p : Excitation → Bool) (a : Excitation) → p a ≡ true → some p ≡ true
@@ -90,10 +91,10 @@ each-monotone g s s′ x e m =
 
 -- A set with no member, joined with any set on either side, gives a set with no member.
 pub join-empty-first : (f : TwoLevel) (t : UncertaintySet) → joinSets f empty t ≡ empty
-unfolding joinSets
+unfolding joinSets member
 join-empty-first f t = refl
 
 pub join-empty-second : (f : TwoLevel) (s : UncertaintySet) → joinSets f s empty ≡ empty
-unfolding joinSets
+unfolding joinSets member
 join-empty-second f s =
     rw (and-false (s .has-l), and-false (s .has-h), and-false (s .has-hl), and-false (s .has-lh)) refl

@@ -16,7 +16,7 @@ pub record UncertaintySet : Type 0 where
   pub has-hl : Bool
   pub has-lh : Bool
 
-abbrev pub member : Excitation → UncertaintySet → Bool
+unfoldable pub member : Excitation → UncertaintySet → Bool
 member e s = cond (e .before) (cond (e .after) (s .has-h) (s .has-hl)) (cond (e .after) (s .has-lh) (s .has-l))
 
 -- An excitation is a member of a set.

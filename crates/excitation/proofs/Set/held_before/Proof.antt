@@ -1,6 +1,6 @@
 use Rattle.laws.specs.Below.{listBelow}
 use Rattle.excitation.specs.Excitation.{heldBefore}
-use Rattle.excitation.specs.UncertaintySet.{code, decode, each}
+use Rattle.excitation.specs.UncertaintySet.{code, decode, member, each}
 use Rattle.excitation.specs.Table.{eachEntry}
 use Rattle.excitation.proofs.Lookup.{each-at}
 use borrow.Author.Needs.{needs}
@@ -19,7 +19,7 @@ array-read-t7 c = search needs
 
 -- src/lib.rt:85:5
 returns : tie.Need-returns
-unfolding listBelow eachEntry code decode each
+unfolding listBelow eachEntry code decode member each
 returns c = each-at heldBefore (c .before .args .self .code)
 
 pub held-before-spec : {M : Type 1} → statement M

@@ -1,6 +1,6 @@
 use mathlib.Core.Bool.{xor}
 use Rattle.laws.specs.Below.{listBelow}
-use Rattle.excitation.specs.UncertaintySet.{code, decode, joinSets}
+use Rattle.excitation.specs.UncertaintySet.{code, decode, member, joinSets}
 use Rattle.excitation.specs.Table.{joinEntry}
 use Rattle.excitation.proofs.Lookup.{join-at}
 use borrow.Author.Needs.{needs}
@@ -40,7 +40,7 @@ array-read-t15 c = search needs
 
 -- src/lib.rt:47:5
 returns : tie.Need-returns
-unfolding listBelow joinEntry xor code decode joinSets
+unfolding listBelow joinEntry xor code decode member joinSets
 returns c = rw (c .before .before .start-of .ensures .0) (join-at (c .before .before .before .args .by) _ _)
 
 pub join-spec : {M : Type 1} → statement M
