@@ -1,27 +1,26 @@
 -- What Read's acceptance says of a file.
 -- Assumes nothing.
+use Prim.Native.Nat.{ℕ, zero, suc, _+_, _%_, _≤_, _<_}
 use mathlib.Core.Path.{_≡_, refl, sym, ap, _∙_}
-use mathlib.Core.Bool.{Bool, true, false, false≢true}
-use mathlib.Core.List.{List, [], _∷_, _++_}
+use mathlib.Core.Bool.{true, false, false≢true}
+use mathlib.Core.List.{[]}
 use mathlib.Core.Logic.{⊎-elim}
-use Prim.Native.Nat.{ℕ, zero, suc, _+_, _-_, _*_, _/_, _%_, _≤_, _<_}
 use native.Mathlib.Nat.{eq-or-lt-of-le}
 use native.Mathlib.Omega.{arith}
 use lib.Dec.{leb}
 use lib.ListN.{length}
 use borrow.Author.Tests.{leb-true, ltb-true, eqb-true}
-use Rattle.laws.specs.Below.{allBelow, countBelow}
+use Rattle.laws.specs.Below.{allBelow}
 use Rattle.laws.proofs.Tests.{and-left, and-right}
 use Rattle.laws.proofs.Below.{count-of-all, count-at-most, count-first}
-use Rattle.block.specs.declared.Refusal.{Refusal}
+use Rattle.block.specs.declared.ReadAnswer.the-variants as answer
 use Rattle.block.specs.declared.Verdict.{Verdict}
 use Rattle.block.specs.declared.Verdict.the-variants.{Accepted, Refused}
-use Rattle.block.specs.declared.ReadAnswer.the-variants as answer
 use Rattle.block.specs.Record.{File, netCount, isInput}
 use Rattle.block.specs.Block.{arrival, inputsBelow, inputCount}
-use Rattle.block.specs.Verdict.{check, verdict}
+use Rattle.block.specs.Verdict.{verdict}
 use Rattle.block.specs.Refusals.{fileChecks, inputInPlace, fieldChecks, recordChecks, recordsFrom, readChecks, answerTo, readOf}
-use Rattle.block.specs.Accepted.{InputRecord, GateRecord, AcceptedFile}
+use Rattle.block.specs.Accepted.{AcceptedFile}
 use Rattle.block.proofs.Verdicts.{passed, both-accepted}
 use Rattle.block.proofs.Fields.{gate-record, input-record}
 

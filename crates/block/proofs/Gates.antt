@@ -1,7 +1,7 @@
 -- A gate's value of members is a member of its value of sets, whatever its kind.
 -- Assumes nothing.
 use mathlib.Core.Bool.{Bool, true, false, cond}
-use mathlib.Core.List.{List, [], _∷_}
+use mathlib.Core.List.{List}
 use Rattle.laws.specs.Pairs.{Pairs, none, more}
 use Rattle.excitation.specs.declared.Excitation.{Excitation}
 use Rattle.excitation.specs.Excitation.{TwoLevel, levelsOf, joinExcitations, invertExcitation}

@@ -1,12 +1,10 @@
 -- Laws of the checks on one record after the other, as the reader makes them.
 -- Assumes nothing.
+use Prim.Native.Nat.{ℕ, suc, _+_, _-_, _≤_, _<_}
 use mathlib.Core.Path.{_≡_, refl, sym, ap, _∙_}
-use mathlib.Core.Bool.{Bool, true, false}
-use mathlib.Core.List.{List, [], _∷_, _++_}
-use Prim.Native.Nat.{ℕ, zero, suc, _+_, _-_, _≤_, _<_}
+use mathlib.Core.List.{List, [], _++_}
 use native.Mathlib.Omega.{arith}
 use native.Mathlib.Numerals.{add-one}
-use lib.Dec.{leb}
 use lib.ListN.{length, take, set}
 use lib.Seq.{take-suc-set}
 use borrow.Author.Tests.{le-leb, lt-leb}
@@ -14,11 +12,10 @@ use Rattle.laws.specs.Below.{digit}
 use Rattle.laws.proofs.Below.{count-next}
 use Rattle.laws.proofs.Turn.{turn-next}
 use Rattle.block.specs.declared.Refusal.{Refusal}
-use Rattle.block.specs.declared.Verdict.{Verdict}
 use Rattle.block.specs.declared.Verdict.the-variants.{Accepted, Refused}
 use Rattle.block.specs.Record.{File, isInput}
 use Rattle.block.specs.Block.{arrivalFrom, arrivals, arrival, inputsBelow}
-use Rattle.block.specs.Verdict.{check, refusal, verdict}
+use Rattle.block.specs.Verdict.{refusal, verdict}
 use Rattle.block.specs.Refusals.{fieldChecks, recordChecks, recordsFrom}
 use Rattle.block.proofs.Verdicts.{passes, fails, all-passed, refused-first, accepted-first}
 

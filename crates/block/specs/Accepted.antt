@@ -1,7 +1,7 @@
 -- What is true of an accepted file. Callers use these facts and open none of the checks.
-use mathlib.Core.Path.{_≡_}
-use mathlib.Core.Bool.{Bool, true, false}
 use Prim.Native.Nat.{ℕ, _*_, _≤_, _<_}
+use mathlib.Core.Path.{_≡_}
+use mathlib.Core.Bool.{true, false}
 use lib.ListN.{length}
 use Rattle.block.specs.Record.{File, kind, contact, delay, pinCount, pin, rise, fall, allowed, isInput}
 use Rattle.block.specs.Block.{arrival}

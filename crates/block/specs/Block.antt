@@ -1,7 +1,7 @@
 -- What is made of a block's records: arrivals, the frame, the fan-out cone of an input and the quiet tick.
-use mathlib.Core.Bool.{Bool, true, false, cond, _||_}
+use Prim.Native.Nat.{ℕ, _+_, _-_}
+use mathlib.Core.Bool.{Bool, false, cond, _||_}
 use mathlib.Core.List.{List}
-use Prim.Native.Nat.{ℕ, _+_, _-_, max}
 use lib.Dec.{eqb}
 use lib.ListN.{getD}
 use Rattle.laws.specs.Below.{anyBelow, maxBelow, countBelow, productBelow, listBelow}

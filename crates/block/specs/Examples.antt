@@ -1,12 +1,11 @@
 -- Document 01's blocks S and F and gates of three pins, and what the definitions say of them.
 use mathlib.Core.Path.{_≡_}
-use mathlib.Core.List.{List, [], _∷_}
-use Prim.Native.Nat.{ℕ}
+use mathlib.Core.List.{[], _∷_}
 use lib.ListN.{replicate}
-use Rattle.block.specs.declared.ReadAnswer.the-variants as answer
-use Rattle.block.specs.Record.{File}
 use Rattle.excitation.specs.Excitation.{l, h, lh}
 use Rattle.excitation.specs.UncertaintySet.{code, decode}
+use Rattle.block.specs.declared.ReadAnswer.the-variants as answer
+use Rattle.block.specs.Record.{File}
 use Rattle.block.specs.Kind.{NAND, NOR, XNOR, ruleOf}
 use Rattle.block.specs.Gate.{gateExcitation, gateSet}
 use Rattle.block.specs.Block.{arrivals, patternCount, coneSize, quietTick}

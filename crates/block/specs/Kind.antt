@@ -1,10 +1,10 @@
 -- What the kind of a gate decides (document 01, "The block file" and "Excitations and sets").
+use Prim.Native.Nat.{ℕ}
 use mathlib.Core.Bool.{Bool, true, false}
 use mathlib.Core.List.{List, [], _∷_}
-use Prim.Native.Nat.{ℕ}
 use lib.ListN.{getD}
-use Rattle.excitation.specs.declared.Join.{Join}
 use Rattle.excitation.specs.declared.Join.the-variants as by
+use Rattle.excitation.specs.declared.Join.{Join}
 use Rattle.block.specs.declared.kind.Rule.{Rule}
 
 -- Document 01's kinds. NONE is a byte that is no kind.

@@ -1,14 +1,14 @@
 -- Checks 1 to 10, and Read (document 01, "Refusals in checking order").
-use mathlib.Core.Bool.{Bool, true, false, cond, _&&_}
+use Prim.Native.Nat.{ℕ, zero, suc, _+_, _-_, _%_}
+use mathlib.Core.Bool.{Bool, cond, _&&_}
 use mathlib.Core.List.{List, [], _∷_, _++_}
-use Prim.Native.Nat.{ℕ, zero, suc, _+_, _-_, _*_, _%_}
 use lib.Dec.{eqb, leb, ltb}
 use lib.ListN.{length}
 use Rattle.laws.specs.Below.{allBelow}
-use Rattle.block.specs.declared.Verdict.{Verdict}
 use Rattle.block.specs.declared.Verdict.the-variants as verdict-is
-use Rattle.block.specs.declared.ReadAnswer.{ReadAnswer}
 use Rattle.block.specs.declared.ReadAnswer.the-variants as answer
+use Rattle.block.specs.declared.Verdict.{Verdict}
+use Rattle.block.specs.declared.ReadAnswer.{ReadAnswer}
 use Rattle.block.specs.Record.{File, netCount, byteAt, kind, contact, delay, pinCount, pin, rise, fall, allowed, isInput}
 use Rattle.block.specs.Kind.{kindOf, ruleOf}
 use Rattle.block.specs.Block.{arrival, inputsBelow, inputCount}

@@ -1,8 +1,8 @@
 -- Laws of the codes of uncertainty sets.
 -- Assumes nothing.
-use mathlib.Core.Path.{_≡_, refl, sym}
-use mathlib.Core.Bool.{Bool, true, false, _&&_, _||_, Bool·beq}
 use Prim.Native.Nat.{ℕ, _+_, _*_, _/_, _%_, _≤_, _<_}
+use mathlib.Core.Path.{_≡_, refl, sym}
+use mathlib.Core.Bool.{Bool, true, _&&_, _||_, Bool·beq}
 use native.Mathlib.Omega.{arith}
 use native.Mathlib.Nat.{mul-add-mod-self-left}
 use lib.Dec.{eqb, ltb}
@@ -12,7 +12,7 @@ use Rattle.laws.proofs.Tests.{and-left, and-right, or-cases}
 use Rattle.laws.proofs.Below.{all-at}
 use Rattle.excitation.specs.declared.Excitation.{Excitation}
 use Rattle.excitation.specs.UncertaintySet.{UncertaintySet, member, some, code, decode}
-use Rattle.excitation.proofs.Finite.{everySet, every-at, setOf}
+use Rattle.excitation.proofs.Finite.{every-at, setOf}
 use Rattle.excitation.proofs.Sets.{level-same, some-gives}
 
 last-bit : (n q r : ℕ) → n ≡ 2 * q + r → r % 2 ≡ n % 2

@@ -1,7 +1,7 @@
 -- A fact of every excitation and of every uncertainty set, by one case for each excitation or one computed test over all sets.
 -- Assumes nothing.
-use mathlib.Core.Path.{_≡_, refl}
-use mathlib.Core.Bool.{Bool, true, false, not, _&&_, _||_}
+use mathlib.Core.Path.{_≡_}
+use mathlib.Core.Bool.{Bool, true, false, _&&_}
 use Rattle.laws.proofs.Tests.{and-left, and-right}
 use Rattle.excitation.specs.declared.Excitation.{Excitation}
 use Rattle.excitation.specs.Excitation.{excitation, l, h, hl, lh}

@@ -1,15 +1,15 @@
 -- What stands in a table that follows its rule. That each constant table of the code is the list of its rule's values is one
 -- computed comparison of all its entries, in the proof of the method that looks it up.
 -- Assumes nothing.
-use mathlib.Core.Path.{_≡_, refl, ap, _∙_}
 use Prim.Native.Nat.{ℕ, _+_, _*_, _/_, _%_, _<_}
+use mathlib.Core.Path.{_≡_, refl, ap, _∙_}
 use native.Mathlib.Omega.{arith}
 use lib.ListN.{getD}
 use Rattle.laws.specs.Below.{listBelow}
 use Rattle.laws.proofs.Below.{list-at}
+use Rattle.excitation.specs.declared.Join.the-variants as by
 use Rattle.excitation.specs.declared.Excitation.{Excitation}
 use Rattle.excitation.specs.declared.Join.{Join}
-use Rattle.excitation.specs.declared.Join.the-variants as by
 use Rattle.excitation.specs.Excitation.{levelsOf}
 use Rattle.excitation.specs.UncertaintySet.{code, decode, joinSets, each}
 use Rattle.excitation.specs.Table.{startOf, joinAt, joinEntry, eachEntry}

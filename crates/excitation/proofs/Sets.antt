@@ -1,8 +1,8 @@
 -- Laws of uncertainty sets: what joining sets, and turning each member into another excitation, keeps of their members. For a
 -- general function of two levels, and a general function of excitations.
 -- Assumes nothing.
-use mathlib.Core.Path.{_≡_, refl, sym, ap, subst, _∙_}
-use mathlib.Core.Bool.{Bool, true, false, not, _&&_, _||_, Bool·beq, false≢true, and-false}
+use mathlib.Core.Path.{_≡_, refl, sym, subst, _∙_}
+use mathlib.Core.Bool.{Bool, true, false, _&&_, _||_, Bool·beq, false≢true, and-false}
 use Rattle.laws.proofs.Tests.{and-left, and-right, and-both, or-first, or-second, or-cases}
 use Rattle.excitation.specs.declared.Excitation.{Excitation}
 use Rattle.excitation.specs.Excitation.{TwoLevel, excitation, l, h, hl, lh, same, joinExcitations}

@@ -1,9 +1,9 @@
 -- Examples of excitations and sets: Figure 5 of document 000, document 01's starred examples, and the AND classes of source
 -- document 001.
-use mathlib.Core.Path.{_≡_}
-use mathlib.Core.Bool.{Bool, true, false, not, cond, _&&_, _||_, xor}
-use mathlib.Core.List.{List, [], _∷_, _++_, map}
 use Prim.Native.Nat.{ℕ, zero, suc, _/_, _%_}
+use mathlib.Core.Path.{_≡_}
+use mathlib.Core.Bool.{cond, _&&_, _||_, xor}
+use mathlib.Core.List.{List, [], _∷_, _++_, map}
 use lib.Dec.{eqb}
 use Rattle.excitation.specs.declared.Excitation.{Excitation}
 use Rattle.excitation.specs.Excitation.{TwoLevel, Level, excitation, l, h, hl, lh, same, joinExcitations, invertExcitation}

@@ -1,8 +1,8 @@
 -- Excitations (document 01, "Excitations and sets").
 use mathlib.Core.Bool.{Bool, true, false, not, _&&_, _||_, xor, Bool·beq}
+use Rattle.excitation.specs.declared.Join.the-variants as by
 use Rattle.excitation.specs.declared.Excitation.{Excitation}
 use Rattle.excitation.specs.declared.Join.{Join}
-use Rattle.excitation.specs.declared.Join.the-variants as by
 
 -- A level: false is 0, true is 1.
 abbrev pub Level : Type 0

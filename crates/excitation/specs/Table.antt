@@ -1,11 +1,11 @@
 -- The constant table of set joins (document 01, "Excitations and sets"): 256 entries for each of AND, OR and XOR, and entry
 -- 16 × first + second of the 256 gives the join.
-use mathlib.Core.List.{List, [], _∷_}
 use Prim.Native.Nat.{ℕ, _/_, _%_}
+use mathlib.Core.List.{[], _∷_}
 use lib.ListN.{getD}
+use Rattle.excitation.specs.declared.Join.the-variants as by
 use Rattle.excitation.specs.declared.Excitation.{Excitation}
 use Rattle.excitation.specs.declared.Join.{Join}
-use Rattle.excitation.specs.declared.Join.the-variants as by
 use Rattle.excitation.specs.Excitation.{levelsOf}
 use Rattle.excitation.specs.UncertaintySet.{code, decode, joinSets, each}
 

@@ -1,7 +1,7 @@
 -- Uncertainty sets (document 01, "Excitations and sets").
+use Prim.Native.Nat.{ℕ, _+_, _*_, _/_, _%_}
 use mathlib.Core.Path.{_≡_}
 use mathlib.Core.Bool.{Bool, true, false, cond, _&&_, _||_}
-use Prim.Native.Nat.{ℕ, _+_, _*_, _/_, _%_}
 use lib.Dec.{eqb}
 use Rattle.laws.specs.Below.{digit}
 use Rattle.excitation.specs.declared.Excitation.{Excitation}

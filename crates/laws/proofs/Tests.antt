@@ -1,8 +1,8 @@
 -- Laws of tests: conjunctions and disjunctions that pass or fail.
 -- Assumes nothing.
+use Prim.Native.Nat.{ℕ}
 use mathlib.Core.Path.{_≡_, refl, ap, sym, _∙_}
 use mathlib.Core.Bool.{Bool, true, false, not, _&&_, _||_, and-eq-true-iff}
-use Prim.Native.Nat.{ℕ}
 use borrow.Author.Tests.{not-true, not-false}
 
 pub and-left : (a b : Bool) → (a && b) ≡ true → a ≡ true

@@ -1,7 +1,7 @@
 -- Tests, counts, the greatest, products and lists over the numbers below n. Each is defined by one number more.
+use Prim.Native.Nat.{ℕ, zero, suc, _+_, _*_, max}
 use mathlib.Core.Bool.{Bool, true, false, _&&_, _||_}
 use mathlib.Core.List.{List, [], _∷_, _++_}
-use Prim.Native.Nat.{ℕ, zero, suc, _+_, _*_, max}
 
 -- Whether p passes at every number below n.
 unfoldable pub allBelow : ℕ → (ℕ → Bool) → Bool

@@ -1,7 +1,7 @@
 -- The six numbers of each answer, as include/zimgurav.h has them: 0 and document 01's values for an accepted call, or a refusal's
 -- number and place; 0 past them.
-use mathlib.Core.List.{List, [], _∷_}
 use Prim.Native.Nat.{ℕ}
+use mathlib.Core.List.{List, [], _∷_}
 use Rattle.block.specs.declared.Refusal.{Refusal}
 use Rattle.block.specs.declared.ReadAnswer.{ReadAnswer}
 use Rattle.block.specs.declared.ReadAnswer.the-variants.{Counts, Refused}

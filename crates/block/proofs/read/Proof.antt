@@ -1,67 +1,53 @@
+-- `block::read` meets its contract.
+-- Assumes nothing.
 use mathlib.Core.Path.{refl, sym, ap, _∙_}
-use borrow.Author.Tests.{eq-eqb, ne-eqb, le-leb, lt-leb}
 use lib.Dec.{leb}
+use borrow.Author.Tests.{eq-eqb, ne-eqb, le-leb, lt-leb}
+use borrow.Author.Needs.{needs}
 use Rattle.laws.proofs.Tests.{and-both, and-second-fails}
 use Rattle.block.specs.Record.{netCount}
 use Rattle.block.specs.Refusals.{fileChecks, readChecks, answerTo, readOf}
 use Rattle.block.proofs.Verdicts.{passes, fails}
 use Rattle.block.proofs.Fields.{is-input, is-gate}
-use borrow.Author.Needs.{needs}
-use Rattle.block.proofs.read.Statement.{statement}
 use Rattle.block.proofs.read.Tie as tie
-use Rattle.block.proofs.read.Reads as reads
-use Rattle.block.proofs.read.Lts as lts
-use Rattle.block.proofs.reader.check_records.Reads as check-records-reads
-use Rattle.block.proofs.record.kind.Reads as kind-reads
-use Rattle.block.proofs.refused_file.Reads as refused-file-reads
+use Rattle.block.proofs.read.Statement.{statement}
 
--- src/lib.rt:53:9
 refused-file-requires : tie.Need-refused-file-requires
 refused-file-requires c κs = search needs
 
--- src/lib.rt:53:9
 returns : tie.Need-returns
 unfolding readOf readChecks fileChecks
 returns c = c .refused-file .ensures ∙ ap (answerTo (c .before .before .before .args .file .now)) (fails _ _ _ (ne-eqb _ _ (c .before .if1 .taken)) refl)
 
--- src/lib.rt:57:9
 refused-file-requires-2 : tie.Need-refused-file-requires-2
 refused-file-requires-2 c κs = search needs
 
--- src/lib.rt:57:9
 returns-2 : tie.Need-returns-2
 unfolding readOf readChecks fileChecks
 returns-2 c = c .refused-file2 .ensures ∙ ap (answerTo (c .before .before .before .before .args .file .now)) (passes _ _ _ (eq-eqb _ _ (c .before .before .if1 .left)) (fails _ _ _ (lt-leb _ _ (c .before .if2 .taken)) refl))
 
--- src/lib.rt:60:9
 refused-file-requires-3 : tie.Need-refused-file-requires-3
 refused-file-requires-3 c κs = search needs
 
--- src/lib.rt:60:9
 returns-3 : tie.Need-returns-3
 unfolding readOf readChecks fileChecks
 returns-3 c = c .refused-file3 .ensures ∙ ap (answerTo (c .before .before .before .before .before .args .file .now)) (passes _ _ _ (eq-eqb _ _ (c .before .before .before .if1 .left)) (passes _ _ _ (le-leb _ _ (c .before .before .if2 .left)) (fails _ _ _ (rw (lt-leb _ _ (c .before .if3 .taken)) refl) refl)))
 
--- src/lib.rt:62:8
 kind-requires : tie.Need-kind-requires
 kind-requires c κs = search needs
 
--- src/lib.rt:63:9
 refused-file-requires-4 : tie.Need-refused-file-requires-4
 refused-file-requires-4 c κs = search needs
 
--- src/lib.rt:63:9
 returns-4 : tie.Need-returns-4
 unfolding readOf readChecks fileChecks
 returns-4 c =
     let gate = is-gate _ _ (λ e. c .before .if4 .taken (c .before .before .kind .ensures .0 ∙ e)) in
     c .refused-file4 .ensures ∙ ap (answerTo (c .before .before .before .before .before .before .before .args .file .now)) (passes _ _ _ (eq-eqb _ _ (c .before .before .before .before .before .if1 .left)) (passes _ _ _ (le-leb _ _ (c .before .before .before .before .if2 .left)) (fails _ _ _ (and-second-fails (leb 1 (netCount (c .before .before .before .before .before .before .before .args .file .now))) gate) refl)))
 
--- src/lib.rt:65:5
 check-records-requires : tie.Need-check-records-requires
 check-records-requires c κs = search needs
 
--- src/lib.rt:48:1
 returns-5 : tie.Need-returns-5
 unfolding readOf readChecks fileChecks
 returns-5 c =

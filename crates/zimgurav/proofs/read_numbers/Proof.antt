@@ -1,24 +1,20 @@
+-- `zimgurav::read_numbers` meets its contract.
+-- Assumes nothing.
 use mathlib.Core.Path.{sym, ap}
-use Rattle.zimgurav.specs.Numbers.{readNumbers}
 use borrow.Author.Needs.{needs}
-use Rattle.zimgurav.proofs.read_numbers.Statement.{statement}
+use Rattle.zimgurav.specs.Numbers.{readNumbers}
 use Rattle.zimgurav.proofs.read_numbers.Tie as tie
-use Rattle.zimgurav.proofs.read_numbers.Reads as reads
-use Rattle.zimgurav.proofs.read_numbers.Lts as lts
+use Rattle.zimgurav.proofs.read_numbers.Statement.{statement}
 
--- src/lib.rt:12:30
 enum-known-answer : tie.Need-enum-known-answer
 enum-known-answer c = search needs
 
--- src/lib.rt:13:29
 enum-known-answer-2 : tie.Need-enum-known-answer-2
 enum-known-answer-2 c = search needs
 
--- src/lib.rt:8:1
 returns : tie.Need-returns
 returns c = sym (ap readNumbers (c .before .answer .given .1))
 
--- src/lib.rt:8:1
 returns-2 : tie.Need-returns-2
 returns-2 c = sym (ap readNumbers (c .before .answer2 .given .1))
 

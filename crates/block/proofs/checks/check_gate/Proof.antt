@@ -1,71 +1,53 @@
+-- `block::checks::check_gate` meets its contract.
+-- Assumes nothing.
+use borrow.Author.Needs.{needs}
 use Rattle.laws.proofs.Tests.{refuted, confirmed}
 use Rattle.block.specs.Refusals.{gateChecks}
 use Rattle.block.proofs.Fields.{four-pins}
 use Rattle.block.proofs.Verdicts.{passes, fails, all-passed}
-use borrow.Author.Needs.{needs}
-use Rattle.block.proofs.checks.check_gate.Statement.{statement}
 use Rattle.block.proofs.checks.check_gate.Tie as tie
-use Rattle.block.proofs.checks.check_gate.Reads as reads
-use Rattle.block.proofs.checks.check_gate.Lts as lts
-use Rattle.block.proofs.checks.gate_in_range.Reads as gate-in-range-reads
-use Rattle.block.proofs.checks.gate_spare_zero.Reads as gate-spare-zero-reads
-use Rattle.block.proofs.checks.pin_count_right.Reads as pin-count-right-reads
-use Rattle.block.proofs.checks.pins_below.Reads as pins-below-reads
-use Rattle.block.proofs.checks.refused.Reads as refused-reads
+use Rattle.block.proofs.checks.check_gate.Statement.{statement}
 
--- src/checks.rt:142:9
 pin-count-right-requires : tie.Need-pin-count-right-requires
 pin-count-right-requires c κs = search needs
 
--- src/checks.rt:143:9
 refused-requires : tie.Need-refused-requires
 refused-requires c κs = search needs
 
--- src/checks.rt:143:9
 returns : tie.Need-returns
 unfolding gateChecks
 returns c = fails _ _ _ (refuted (c .before .before .pin-count-right .ensures) (c .before .if1 .taken)) (c .refused .ensures)
 
--- src/checks.rt:145:9
 gate-spare-zero-requires : tie.Need-gate-spare-zero-requires
 gate-spare-zero-requires c κs = (search needs, four-pins _ _ (confirmed (c .before .pin-count-right .ensures) (c .if1 .left)))
 
--- src/checks.rt:146:9
 refused-requires-2 : tie.Need-refused-requires-2
 refused-requires-2 c κs = search needs
 
--- src/checks.rt:146:9
 returns-2 : tie.Need-returns-2
 unfolding gateChecks
 returns-2 c = passes _ _ _ (confirmed (c .before .before .before .before .pin-count-right .ensures) (c .before .before .before .if1 .left)) (fails _ _ _ (refuted (c .before .before .gate-spare-zero .ensures) (c .before .if2 .taken)) (c .refused2 .ensures))
 
--- src/checks.rt:148:9
 pins-below-requires : tie.Need-pins-below-requires
 pins-below-requires c κs = (search needs, four-pins _ _ (confirmed (c .before .before .before .pin-count-right .ensures) (c .before .before .if1 .left)))
 
--- src/checks.rt:149:9
 refused-requires-3 : tie.Need-refused-requires-3
 refused-requires-3 c κs = search needs
 
--- src/checks.rt:149:9
 returns-3 : tie.Need-returns-3
 unfolding gateChecks
 returns-3 c = passes _ _ _ (confirmed (c .before .before .before .before .before .before .pin-count-right .ensures) (c .before .before .before .before .before .if1 .left)) (passes _ _ _ (confirmed (c .before .before .before .before .gate-spare-zero .ensures) (c .before .before .before .if2 .left)) (fails _ _ _ (refuted (c .before .before .pins-below .ensures) (c .before .if3 .taken)) (c .refused3 .ensures)))
 
--- src/checks.rt:151:9
 gate-in-range-requires : tie.Need-gate-in-range-requires
 gate-in-range-requires c κs = search needs
 
--- src/checks.rt:152:9
 refused-requires-4 : tie.Need-refused-requires-4
 refused-requires-4 c κs = search needs
 
--- src/checks.rt:152:9
 returns-4 : tie.Need-returns-4
 unfolding gateChecks
 returns-4 c = passes _ _ _ (confirmed (c .before .before .before .before .before .before .before .before .pin-count-right .ensures) (c .before .before .before .before .before .before .before .if1 .left)) (passes _ _ _ (confirmed (c .before .before .before .before .before .before .gate-spare-zero .ensures) (c .before .before .before .before .before .if2 .left)) (passes _ _ _ (confirmed (c .before .before .before .before .pins-below .ensures) (c .before .before .before .if3 .left)) (fails _ _ _ (refuted (c .before .before .gate-in-range .ensures) (c .before .if4 .taken)) (c .refused4 .ensures))))
 
--- src/checks.rt:138:1
 returns-5 : tie.Need-returns-5
 unfolding gateChecks
 returns-5 c = passes _ _ _ (confirmed (c .before .before .before .before .before .before .before .pin-count-right .ensures) (c .before .before .before .before .before .before .if1 .left)) (passes _ _ _ (confirmed (c .before .before .before .before .before .gate-spare-zero .ensures) (c .before .before .before .before .if2 .left)) (passes _ _ _ (confirmed (c .before .before .before .pins-below .ensures) (c .before .before .if3 .left)) (passes _ _ _ (confirmed (c .before .gate-in-range .ensures) (c .if4 .left)) all-passed)))

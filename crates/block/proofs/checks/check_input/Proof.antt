@@ -1,67 +1,50 @@
-use mathlib.Core.Path.{_≡_, refl, sym, ap, _∙_}
+-- `block::checks::check_input` meets its contract.
+-- Assumes nothing.
+use borrow.Author.Needs.{needs}
 use Rattle.laws.proofs.Tests.{refuted, confirmed, refuted-at, confirmed-at}
 use Rattle.block.specs.Refusals.{within, inputChecks}
 use Rattle.block.proofs.Fields.{after-gate, past-64, in-place}
 use Rattle.block.proofs.Verdicts.{passes, fails, all-passed}
-use borrow.Author.Needs.{needs}
-use Rattle.block.proofs.checks.check_input.Statement.{statement}
 use Rattle.block.proofs.checks.check_input.Tie as tie
-use Rattle.block.proofs.checks.check_input.Reads as reads
-use Rattle.block.proofs.checks.check_input.Lts as lts
-use Rattle.block.proofs.checks.in_range.Reads as in-range-reads
-use Rattle.block.proofs.checks.input_spare_zero.Reads as input-spare-zero-reads
-use Rattle.block.proofs.checks.refused.Reads as refused-reads
-use Rattle.block.proofs.record.allowed.Reads as allowed-reads
+use Rattle.block.proofs.checks.check_input.Statement.{statement}
 
--- src/checks.rt:122:9
 refused-requires : tie.Need-refused-requires
 refused-requires c κs = search needs
 
--- src/checks.rt:122:9
 returns : tie.Need-returns
 unfolding inputChecks
 returns c = fails _ _ _ (after-gate _ _ _ (c .before .before .before .before .pre .1) (c .before .if1 .taken)) (c .refused .ensures)
 
--- src/checks.rt:125:9
 refused-requires-2 : tie.Need-refused-requires-2
 refused-requires-2 c κs = search needs
 
--- src/checks.rt:125:9
 returns-2 : tie.Need-returns-2
 unfolding inputChecks
 returns-2 c = fails _ _ _ (past-64 _ _ _ (c .before .before .before .before .before .pre .1) (c .before .if2 .taken)) (c .refused2 .ensures)
 
--- src/checks.rt:127:9
 input-spare-zero-requires : tie.Need-input-spare-zero-requires
 input-spare-zero-requires c κs = search needs
 
--- src/checks.rt:128:9
 refused-requires-3 : tie.Need-refused-requires-3
 refused-requires-3 c κs = search needs
 
--- src/checks.rt:128:9
 returns-3 : tie.Need-returns-3
 unfolding inputChecks
 returns-3 c = passes _ _ _ (in-place _ _ _ (c .before .before .before .before .before .before .before .pre .1) (c .before .before .before .before .if1 .left) (c .before .before .before .if2 .left)) (fails _ _ _ (refuted (c .before .before .input-spare-zero .ensures) (c .before .if3 .taken)) (c .refused3 .ensures))
 
--- src/checks.rt:130:18
 allowed-requires : tie.Need-allowed-requires
 allowed-requires c κs = search needs
 
--- src/checks.rt:130:9
 in-range-requires : tie.Need-in-range-requires
 in-range-requires c κs = search needs
 
--- src/checks.rt:131:9
 refused-requires-4 : tie.Need-refused-requires-4
 refused-requires-4 c κs = search needs
 
--- src/checks.rt:131:9
 returns-4 : tie.Need-returns-4
 unfolding inputChecks
 returns-4 c = passes _ _ _ (in-place _ _ _ (c .before .before .before .before .before .before .before .before .before .before .pre .1) (c .before .before .before .before .before .before .before .if1 .left) (c .before .before .before .before .before .before .if2 .left)) (passes _ _ _ (confirmed (c .before .before .before .before .before .input-spare-zero .ensures) (c .before .before .before .before .if3 .left)) (fails _ _ _ (refuted-at (within 1 15) (c .before .before .in-range .ensures) (c .before .before .before .allowed .ensures .0) (c .before .if4 .taken)) (c .refused4 .ensures)))
 
--- src/checks.rt:117:1
 returns-5 : tie.Need-returns-5
 unfolding inputChecks
 returns-5 c = passes _ _ _ (in-place _ _ _ (c .before .before .before .before .before .before .before .before .before .pre .1) (c .before .before .before .before .before .before .if1 .left) (c .before .before .before .before .before .if2 .left)) (passes _ _ _ (confirmed (c .before .before .before .before .input-spare-zero .ensures) (c .before .before .before .if3 .left)) (passes _ _ _ (confirmed-at (within 1 15) (c .before .in-range .ensures) (c .before .before .allowed .ensures .0) (c .if4 .left)) all-passed))

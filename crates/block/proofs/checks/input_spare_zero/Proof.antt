@@ -1,27 +1,22 @@
-use mathlib.Core.Path.{_≡_, refl, sym, ap, _∙_}
+-- `block::checks::input_spare_zero` meets its contract.
+-- Assumes nothing.
+use mathlib.Core.Path.{refl}
+use borrow.Author.Needs.{needs}
 use Rattle.laws.proofs.Tests.{refuted, confirmed}
 use Rattle.block.specs.Refusals.{inputSpareZero}
-use borrow.Author.Needs.{needs}
-use Rattle.block.proofs.checks.input_spare_zero.Statement.{statement}
 use Rattle.block.proofs.checks.input_spare_zero.Tie as tie
-use Rattle.block.proofs.checks.input_spare_zero.Reads as reads
-use Rattle.block.proofs.checks.input_spare_zero.Lts as lts
-use Rattle.block.proofs.checks.zero_bytes.Reads as zero-bytes-reads
+use Rattle.block.proofs.checks.input_spare_zero.Statement.{statement}
 
--- src/checks.rt:64:9
 zero-bytes-requires : tie.Need-zero-bytes-requires
 zero-bytes-requires c κs = search needs
 
--- src/checks.rt:65:9
 returns : tie.Need-returns
 unfolding inputSpareZero
 returns c = rw (refuted (c .before .zero-bytes .ensures) (c .if1 .taken)) refl
 
--- src/checks.rt:67:5
 zero-bytes-requires-2 : tie.Need-zero-bytes-requires-2
 zero-bytes-requires-2 c κs = search needs
 
--- src/checks.rt:60:1
 returns-2 : tie.Need-returns-2
 unfolding inputSpareZero
 returns-2 c = rw (confirmed (c .before .before .zero-bytes .ensures) (c .before .if1 .left)) (c .zero-bytes2 .ensures)

@@ -1,20 +1,18 @@
+-- `block::checks::pins_below` meets its contract.
+-- Assumes nothing.
+use Prim.Native.Nat.{_-_, _≤_}
+use mathlib.Core.Path.{_≡_, refl, sym}
+use mathlib.Core.Bool.{true}
+use native.Mathlib.Omega.{arith}
 use lib.Dec.{ltb}
 use borrow.Author.Needs.{needs}
-use mathlib.Core.Path.{_≡_, refl, sym, ap, _∙_}
-use Prim.Native.Nat.{ℕ, _+_, _-_, _*_, _≤_, _<_}
-use native.Mathlib.Omega.{arith}
-use mathlib.Core.Bool.{true}
-use borrow.Author.Tests.{lt-ltb, le-ltb, eq-eqb, ne-eqb, le-leb, lt-leb}
+use borrow.Author.Tests.{lt-ltb, le-ltb}
 use Rattle.laws.specs.Below.{allBelow}
 use Rattle.laws.proofs.Below.{all-next, all-fails}
-use Rattle.block.specs.Record.{pin, pinCount}
+use Rattle.block.specs.Record.{pin}
 use Rattle.block.specs.Refusals.{pinsBelow}
-use Rattle.block.proofs.checks.pins_below.Statement.{statement}
 use Rattle.block.proofs.checks.pins_below.Tie as tie
-use Rattle.block.proofs.checks.pins_below.Reads as reads
-use Rattle.block.proofs.checks.pins_below.Lts as lts
-use Rattle.block.proofs.record.pin.Reads as pin-reads
-use Rattle.block.proofs.record.pin_count.Reads as pin-count-reads
+use Rattle.block.proofs.checks.pins_below.Statement.{statement}
 
 abbrev Inv-loop : tie.InvT-loop
 Inv-loop file net pins p₀ p = (p ≤ pins) × (allBelow p (λ q. ltb (pin file (net .0) q) (net .0)) ≡ true)
@@ -22,20 +20,16 @@ Inv-loop file net pins p₀ p = (p ≤ pins) × (allBelow p (λ q. ltb (pin file
 abbrev μ-loop : tie.MeasureT-loop
 μ-loop file net pins p₀ p = pins - p
 
--- src/checks.rt:87:9
 pin-count-requires : tie.Need-pin-count-requires Inv-loop μ-loop
 pin-count-requires c κs = search needs
 
--- src/checks.rt:89:5
 loop-holds : tie.Need-loop-holds Inv-loop μ-loop
 unfolding allBelow
 loop-holds c = (search needs, refl)
 
--- src/checks.rt:90:13
 pin-requires : tie.Need-pin-requires Inv-loop μ-loop
 pin-requires c κs = search needs
 
--- src/checks.rt:92:13
 returns : tie.Need-returns Inv-loop μ-loop
 unfolding pinsBelow
 returns c =
@@ -43,22 +37,18 @@ returns c =
     let source = c .before .before .before .pin .ensures in
     sym (all-fails _ _ _ (rw pins at (c .before .before .before .before .loop-test .taken)) (le-ltb _ _ (rw source at (c .if1 .taken))))
 
--- src/checks.rt:94:9
 add-p : tie.Need-add-p Inv-loop μ-loop
 add-p c = search needs
 
--- src/checks.rt:89:5
 loop-less : tie.Need-loop-less Inv-loop μ-loop
 loop-less c = search needs
 
--- src/checks.rt:89:5
 loop-again : tie.Need-loop-again Inv-loop μ-loop
 unfolding pinsBelow
 loop-again c =
     let source = c .before .before .before .pin .ensures in
     (search needs, all-next _ _ (c .before .before .before .before .before .loop .inv .1) (lt-ltb _ _ (rw source at (c .if1 .left))))
 
--- src/checks.rt:83:1
 returns-2 : tie.Need-returns-2 Inv-loop μ-loop
 unfolding pinsBelow
 returns-2 c =

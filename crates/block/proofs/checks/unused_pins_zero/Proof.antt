@@ -1,20 +1,18 @@
-use borrow.Author.Needs.{needs}
-use Prim.Native.Nat.{ℕ, _+_, _-_, _*_, _≤_, _<_}
-use mathlib.Core.Path.{_≡_, refl, sym, ap, _∙_}
+-- `block::checks::unused_pins_zero` meets its contract.
+-- Assumes nothing.
+use Prim.Native.Nat.{_+_, _-_, _≤_}
+use mathlib.Core.Path.{_≡_, refl, sym, _∙_}
 use mathlib.Core.Bool.{true}
 use native.Mathlib.Omega.{arith}
 use lib.Dec.{eqb}
+use borrow.Author.Needs.{needs}
 use borrow.Author.Tests.{eq-eqb, ne-eqb}
 use Rattle.laws.specs.Below.{allBelow}
 use Rattle.laws.proofs.Below.{all-next, all-fails}
 use Rattle.block.specs.Record.{pin, pinCount}
 use Rattle.block.specs.Refusals.{unusedPinsZero}
-use Rattle.block.proofs.checks.unused_pins_zero.Statement.{statement}
 use Rattle.block.proofs.checks.unused_pins_zero.Tie as tie
-use Rattle.block.proofs.checks.unused_pins_zero.Reads as reads
-use Rattle.block.proofs.checks.unused_pins_zero.Lts as lts
-use Rattle.block.proofs.record.pin.Reads as pin-reads
-use Rattle.block.proofs.record.pin_count.Reads as pin-count-reads
+use Rattle.block.proofs.checks.unused_pins_zero.Statement.{statement}
 
 abbrev Inv-loop : tie.InvT-loop
 Inv-loop file net used unused i₀ i = (i ≤ 4 - pinCount file (net .0)) × (allBelow i (λ j. eqb (pin file (net .0) (pinCount file (net .0) + j)) 0) ≡ true)
@@ -22,28 +20,22 @@ Inv-loop file net used unused i₀ i = (i ≤ 4 - pinCount file (net .0)) × (al
 abbrev μ-loop : tie.MeasureT-loop
 μ-loop file net used unused i₀ i = unused - i
 
--- src/checks.rt:76:9
 pin-count-requires : tie.Need-pin-count-requires Inv-loop μ-loop
 pin-count-requires c κs = search needs
 
--- src/checks.rt:77:18
 sub-unused : tie.Need-sub-unused Inv-loop μ-loop
 sub-unused c = search needs
 
--- src/checks.rt:79:5
 loop-holds : tie.Need-loop-holds Inv-loop μ-loop
 unfolding allBelow
 loop-holds c = (search needs, refl)
 
--- src/checks.rt:80:45
 add-pin : tie.Need-add-pin Inv-loop μ-loop
 add-pin c = search needs
 
--- src/checks.rt:80:13
 pin-requires : tie.Need-pin-requires Inv-loop μ-loop
 pin-requires c κs = search needs
 
--- src/checks.rt:82:13
 returns : tie.Need-returns Inv-loop μ-loop
 unfolding unusedPinsZero
 returns c =
@@ -51,22 +43,18 @@ returns c =
     let source = rw used at (c .before .before .pin .ensures) in
     sym (all-fails _ _ _ (rw used at (c .before .before .before .loop-test .taken)) (ne-eqb _ _ (λ e. c .if1 .taken (source ∙ e))))
 
--- src/checks.rt:84:9
 add-i : tie.Need-add-i Inv-loop μ-loop
 add-i c = search needs
 
--- src/checks.rt:79:5
 loop-less : tie.Need-loop-less Inv-loop μ-loop
 loop-less c = search needs
 
--- src/checks.rt:79:5
 loop-again : tie.Need-loop-again Inv-loop μ-loop
 loop-again c =
     let used = c .before .before .before .before .before .pin-count .ensures .0 in
     let source = rw used at (c .before .before .pin .ensures) in
     (omega arith, all-next _ _ (c .before .before .before .before .loop .inv .1) (eq-eqb _ _ (sym source ∙ c .if1 .left)))
 
--- src/checks.rt:72:1
 returns-2 : tie.Need-returns-2 Inv-loop μ-loop
 unfolding unusedPinsZero
 returns-2 c =

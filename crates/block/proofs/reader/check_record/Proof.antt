@@ -1,28 +1,22 @@
-use lib.ListN.{length-set}
-use mathlib.Core.Path.{_≡_, refl, sym, ap, _∙_}
-use Prim.Native.Nat.{ℕ, _+_, _-_, _*_, _%_, _≤_, _<_}
+-- `block::reader::check_record` meets its contract.
+-- Assumes nothing.
+use Prim.Native.Nat.{_%_}
+use mathlib.Core.Path.{_≡_, sym, ap, _∙_}
 use native.Mathlib.Omega.{arith}
+use lib.ListN.{length-set}
+use borrow.Author.Needs.{needs}
 use Rattle.block.specs.Block.{arrivalFrom, arrival}
 use Rattle.block.proofs.Verdicts.{apart}
 use Rattle.block.proofs.Records.{fields-refused, arrives-late, record-passes, arrived-next}
-use borrow.Author.Needs.{needs}
-use Rattle.block.proofs.reader.check_record.Statement.{statement}
 use Rattle.block.proofs.reader.check_record.Tie as tie
-use Rattle.block.proofs.reader.check_record.Reads as reads
-use Rattle.block.proofs.reader.check_record.Lts as lts
-use Rattle.block.proofs.checks.check_fields.Reads as check-fields-reads
-use Rattle.block.proofs.checks.refused.Reads as refused-reads
-use Rattle.block.proofs.reader.arrival.Reads as arrival-reads
+use Rattle.block.proofs.reader.check_record.Statement.{statement}
 
--- src/reader.rt:59:9
 check-fields-requires : tie.Need-check-fields-requires
 check-fields-requires c κs = search needs
 
--- src/reader.rt:60:29
 enum-known-fields : tie.Need-enum-known-fields
 enum-known-fields c = search needs
 
--- src/reader.rt:61:9
 returns : tie.Need-returns
 returns c =
     let refusal = sym (c .before .before .before .check-fields .ensures) ∙ c .before .fields .given .1 in
@@ -31,15 +25,12 @@ returns c =
 enum-told : tie.Need-enum-told
 enum-told c = search needs
 
--- src/reader.rt:63:9
 arrival-requires : tie.Need-arrival-requires
 arrival-requires c κs = (search needs, sym (c .before .before .before .check-fields .ensures) ∙ c .before .enum-told .given .1)
 
--- src/reader.rt:65:9
 refused-requires : tie.Need-refused-requires
 refused-requires c κs = search needs
 
--- src/reader.rt:65:9
 returns-2 : tie.Need-returns-2
 returns-2 c =
     let start = c .before .before .before .before .before .before .before .before in
@@ -52,15 +43,12 @@ returns-2 c =
       arrived = λ e. apart _ (sym (c .refused .ensures) ∙ e);
     }
 
--- src/reader.rt:68:20
 cast-arrivals : tie.Need-cast-arrivals
 cast-arrivals c = search needs
 
--- src/reader.rt:68:5
 element-write-arrivals : tie.Need-element-write-arrivals
 element-write-arrivals c = search needs
 
--- src/reader.rt:55:1
 returns-3 : tie.Need-returns-3
 returns-3 c =
     let start = c .before .before .before .before .before .before .before in

@@ -1,8 +1,9 @@
-use borrow.Author.Needs.{needs}
+-- `block::reader::check_records` meets its contract.
+-- Assumes nothing.
+use Prim.Native.Nat.{_+_, _-_, _≤_}
 use mathlib.Core.Path.{_≡_, refl, sym, ap, ap₂, _∙_}
-use Prim.Native.Nat.{ℕ, _+_, _-_, _*_, _%_, _≤_, _<_}
 use native.Mathlib.Omega.{arith}
-use lib.ListN.{length}
+use borrow.Author.Needs.{needs}
 use Rattle.laws.specs.Below.{countBelow}
 use Rattle.laws.specs.Turn.{inTurn}
 use Rattle.block.specs.declared.ReadAnswer.the-variants as answer
@@ -12,12 +13,8 @@ use Rattle.block.specs.Verdict.{verdict}
 use Rattle.block.specs.Refusals.{recordsFrom, answerTo}
 use Rattle.block.specs.Read.{Known}
 use Rattle.block.proofs.Records.{counted-next, records-refused, records-next, records-end}
-use Rattle.block.proofs.reader.check_records.Statement.{statement}
 use Rattle.block.proofs.reader.check_records.Tie as tie
-use Rattle.block.proofs.reader.check_records.Reads as reads
-use Rattle.block.proofs.reader.check_records.Lts as lts
-use Rattle.block.proofs.reader.check_record.Reads as check-record-reads
-use Rattle.block.proofs.reader.input_digit.Reads as input-digit-reads
+use Rattle.block.proofs.reader.check_records.Statement.{statement}
 
 abbrev Inv-loop : tie.InvT-loop
 Inv-loop file nets arrivals₀ inputs₀ net₀ arrivals inputs net = (net ≤ nets) × (inputs ≤ net) × Known file net inputs arrivals × (verdict (recordsFrom file net (nets - net)) ≡ verdict (recordsFrom file 0 nets))
@@ -25,22 +22,18 @@ Inv-loop file nets arrivals₀ inputs₀ net₀ arrivals inputs net = (net ≤ n
 abbrev μ-loop : tie.MeasureT-loop
 μ-loop file nets arrivals₀ inputs₀ net₀ arrivals inputs net = nets - net
 
--- src/reader.rt:88:5
 loop-holds : tie.Need-loop-holds Inv-loop μ-loop
 unfolding inputsBelow countBelow arrivals inTurn
 loop-holds c =
     let e : c .before .args .nets - 0 ≡ c .before .args .nets = omega arith in
     (search needs, search needs, record { counted = refl; sized = refl; arrived = refl }, rw e refl)
 
--- src/reader.rt:89:13
 check-record-requires : tie.Need-check-record-requires Inv-loop μ-loop
 check-record-requires c κs = (omega arith, c .before .before .loop .inv .2)
 
--- src/reader.rt:90:33
 enum-known-checked : tie.Need-enum-known-checked Inv-loop μ-loop
 enum-known-checked c = search needs
 
--- src/reader.rt:91:13
 returns : tie.Need-returns Inv-loop μ-loop
 returns c =
     let l = c .before .before .before .before .before .before .loop in
@@ -50,23 +43,18 @@ returns c =
 enum-told : tie.Need-enum-told Inv-loop μ-loop
 enum-told c = search needs
 
--- src/reader.rt:93:19
 input-digit-requires : tie.Need-input-digit-requires Inv-loop μ-loop
 input-digit-requires c κs = search needs
 
--- src/reader.rt:93:9
 add-inputs : tie.Need-add-inputs Inv-loop μ-loop
 add-inputs c = search needs
 
--- src/reader.rt:94:9
 add-net : tie.Need-add-net Inv-loop μ-loop
 add-net c = search needs
 
--- src/reader.rt:88:5
 loop-less : tie.Need-loop-less Inv-loop μ-loop
 loop-less c = search needs
 
--- src/reader.rt:88:5
 loop-again : tie.Need-loop-again Inv-loop μ-loop
 loop-again c =
     let l = c .before .before .before .before .before .before .loop in
@@ -75,7 +63,6 @@ loop-again c =
     let counted = ap (λ n. l .inputs + n) (c .input-digit .ensures .0) ∙ counted-next _ _ _ (l .inv .2 .counted) in
     (omega arith, omega arith, record { counted = counted; sized = checked .sized; arrived = checked .arrived told }, records-next _ _ _ (c .before .before .before .before .before .loop-test .taken) (sym (checked .judged) ∙ told) ∙ l .inv .3)
 
--- src/reader.rt:81:1
 returns-2 : tie.Need-returns-2 Inv-loop μ-loop
 returns-2 c =
     let l = c .before .loop in

@@ -1,20 +1,16 @@
-use borrow.Author.Needs.{needs}
+-- `block::reader::latest_pin` meets its contract.
+-- Assumes nothing.
+use Prim.Native.Nat.{_-_, _≤_, _<_}
 use mathlib.Core.Path.{_≡_, refl, sym, ap, _∙_}
-use Prim.Native.Nat.{ℕ, _+_, _-_, _*_, _%_, _≤_, _<_}
 use native.Mathlib.Omega.{arith}
 use lib.ListN.{getD, take}
 use lib.Seq.{getD-take}
+use borrow.Author.Needs.{needs}
 use Rattle.laws.specs.Below.{maxBelow}
 use Rattle.laws.proofs.Below.{max-next}
-use Rattle.block.specs.Record.{pin, pinCount}
-use Rattle.block.proofs.reader.latest_pin.Statement.{statement}
+use Rattle.block.specs.Record.{pin}
 use Rattle.block.proofs.reader.latest_pin.Tie as tie
-use Rattle.block.proofs.reader.latest_pin.Reads as reads
-use Rattle.block.proofs.reader.latest_pin.Lts as lts
-use Rattle.block.proofs.reader.greater.Reads as greater-reads
-use Rattle.block.proofs.record.pin.Reads as pin-reads
-use Rattle.block.proofs.record.pin_count.Reads as pin-count-reads
-use Rattle.block.proofs.record.wide.Reads as wide-reads
+use Rattle.block.proofs.reader.latest_pin.Statement.{statement}
 
 abbrev Inv-loop : tie.InvT-loop
 Inv-loop file net earlier pins latest₀ p₀ latest p = (p ≤ pins) × (latest < 256) × (latest ≡ maxBelow p (λ q. getD (take (net .0) earlier) (pin file (net .0) q) 0))
@@ -22,42 +18,33 @@ Inv-loop file net earlier pins latest₀ p₀ latest p = (p ≤ pins) × (latest
 abbrev μ-loop : tie.MeasureT-loop
 μ-loop file net earlier pins latest₀ p₀ latest p = pins - p
 
--- src/reader.rt:30:9
 pin-count-requires : tie.Need-pin-count-requires Inv-loop μ-loop
 pin-count-requires c κs = search needs
 
--- src/reader.rt:33:5
 loop-holds : tie.Need-loop-holds Inv-loop μ-loop
 unfolding maxBelow
 loop-holds c = (search needs, search needs, refl)
 
--- src/reader.rt:34:13
 pin-requires : tie.Need-pin-requires Inv-loop μ-loop
 pin-requires c κs = search needs
 
--- src/reader.rt:36:47
 element-copy-out-wide : tie.Need-element-copy-out-wide Inv-loop μ-loop
 element-copy-out-wide c =
     let below = c .before .before .before .before .before .pre .1 .pin-below (c .before .before .loop .p) (omega arith) in
     omega arith
 
--- src/reader.rt:36:34
 wide-requires : tie.Need-wide-requires Inv-loop μ-loop
 wide-requires c κs = search needs
 
--- src/reader.rt:36:9
 greater-requires : tie.Need-greater-requires Inv-loop μ-loop
 greater-requires c κs = search needs
 
--- src/reader.rt:37:9
 add-p : tie.Need-add-p Inv-loop μ-loop
 add-p c = search needs
 
--- src/reader.rt:33:5
 loop-less : tie.Need-loop-less Inv-loop μ-loop
 loop-less c = search needs
 
--- src/reader.rt:33:5
 loop-again : tie.Need-loop-again Inv-loop μ-loop
 loop-again c =
     let start = c .before .before .before .before .before .before .before .before in
@@ -68,7 +55,6 @@ loop-again c =
     c .before .wide .ensures .0 ∙ ap (λ k. getD (start .args .earlier .now) k 0) source ∙ sym (getD-take _ (start .args .earlier .now) _ 0 below) in
     (search needs, omega arith, c .greater .ensures ∙ rw (l .inv .2, here) (sym (max-next (l .p) _)))
 
--- src/reader.rt:26:1
 returns : tie.Need-returns Inv-loop μ-loop
 returns c =
     let l = c .before .loop in

@@ -1,23 +1,20 @@
+-- `excitation::Set::held_after` meets its contract.
+-- Assumes nothing.
+use borrow.Author.Needs.{needs}
 use Rattle.laws.specs.Below.{listBelow}
 use Rattle.excitation.specs.Excitation.{heldAfter}
 use Rattle.excitation.specs.UncertaintySet.{code, decode, member, each}
 use Rattle.excitation.specs.Table.{eachEntry}
 use Rattle.excitation.proofs.Lookup.{each-at}
-use borrow.Author.Needs.{needs}
-use Rattle.excitation.proofs.Set.held_after.Statement.{statement}
 use Rattle.excitation.proofs.Set.held_after.Tie as tie
-use Rattle.excitation.proofs.Set.held_after.Reads as reads
-use Rattle.excitation.proofs.Set.held_after.Lts as lts
+use Rattle.excitation.proofs.Set.held_after.Statement.{statement}
 
--- src/lib.rt:100:30
 cast-t4 : tie.Need-cast-t4
 cast-t4 c = search needs
 
--- src/lib.rt:100:19
 array-read-t7 : tie.Need-array-read-t7
 array-read-t7 c = search needs
 
--- src/lib.rt:95:5
 returns : tie.Need-returns
 unfolding listBelow eachEntry code decode member each
 returns c = each-at heldAfter (c .before .args .self .code)

@@ -1,23 +1,20 @@
+-- `excitation::Set::held_before` meets its contract.
+-- Assumes nothing.
+use borrow.Author.Needs.{needs}
 use Rattle.laws.specs.Below.{listBelow}
 use Rattle.excitation.specs.Excitation.{heldBefore}
 use Rattle.excitation.specs.UncertaintySet.{code, decode, member, each}
 use Rattle.excitation.specs.Table.{eachEntry}
 use Rattle.excitation.proofs.Lookup.{each-at}
-use borrow.Author.Needs.{needs}
-use Rattle.excitation.proofs.Set.held_before.Statement.{statement}
 use Rattle.excitation.proofs.Set.held_before.Tie as tie
-use Rattle.excitation.proofs.Set.held_before.Reads as reads
-use Rattle.excitation.proofs.Set.held_before.Lts as lts
+use Rattle.excitation.proofs.Set.held_before.Statement.{statement}
 
--- src/lib.rt:90:31
 cast-t4 : tie.Need-cast-t4
 cast-t4 c = search needs
 
--- src/lib.rt:90:19
 array-read-t7 : tie.Need-array-read-t7
 array-read-t7 c = search needs
 
--- src/lib.rt:85:5
 returns : tie.Need-returns
 unfolding listBelow eachEntry code decode member each
 returns c = each-at heldBefore (c .before .args .self .code)

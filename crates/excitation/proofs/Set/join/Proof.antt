@@ -1,44 +1,35 @@
+-- `excitation::Set::join` meets its contract.
+-- Assumes nothing.
 use mathlib.Core.Bool.{xor}
+use borrow.Author.Needs.{needs}
 use Rattle.laws.specs.Below.{listBelow}
 use Rattle.excitation.specs.UncertaintySet.{code, decode, member, joinSets}
 use Rattle.excitation.specs.Table.{joinEntry}
 use Rattle.excitation.proofs.Lookup.{join-at}
-use borrow.Author.Needs.{needs}
-use Rattle.excitation.proofs.Set.join.Statement.{statement}
 use Rattle.excitation.proofs.Set.join.Tie as tie
-use Rattle.excitation.proofs.Set.join.Reads as reads
-use Rattle.excitation.proofs.Set.join.Lts as lts
-use Rattle.excitation.proofs.start_of.Reads as start-of-reads
+use Rattle.excitation.proofs.Set.join.Statement.{statement}
 
--- src/lib.rt:50:13
 start-of-requires : tie.Need-start-of-requires
 start-of-requires c κs = search needs
 
--- src/lib.rt:53:42
 cast-entry : tie.Need-cast-entry
 cast-entry c = search needs
 
--- src/lib.rt:53:36
 mul-entry : tie.Need-mul-entry
 mul-entry c = search needs
 
--- src/lib.rt:53:28
 add-entry : tie.Need-add-entry
 add-entry c = search needs
 
--- src/lib.rt:53:61
 cast-entry-2 : tie.Need-cast-entry-2
 cast-entry-2 c = search needs
 
--- src/lib.rt:53:28
 add-entry-2 : tie.Need-add-entry-2
 add-entry-2 c = search needs
 
--- src/lib.rt:54:21
 array-read-t15 : tie.Need-array-read-t15
 array-read-t15 c = search needs
 
--- src/lib.rt:47:5
 returns : tie.Need-returns
 unfolding listBelow joinEntry xor code decode member joinSets
 returns c = rw (c .before .before .start-of .ensures .0) (join-at (c .before .before .before .args .by) _ _)
