@@ -9,11 +9,14 @@ use Rattle.laws.specs.Turn.{inTurn}
 use Rattle.excitation.specs.UncertaintySet.{UncertaintySet, decode, size}
 use Rattle.block.specs.Record.{File, netCount, isInput, delay, pinCount, pin, rise, fall, allowed}
 
+-- The greatest arrival of a gate's pins, from the arrivals of the nets below it.
+unfoldable pub latestPin : File → List ℕ → ℕ → ℕ
+latestPin file below net = maxBelow (pinCount file net) (λ p. getD below (pin file net p) 0)
+
 -- Document 01's arrival of a net, from the arrivals of the nets below it: 0 for an input; for a gate the greatest arrival of its
 -- pins plus D.
 unfoldable pub arrivalFrom : File → List ℕ → ℕ → ℕ
-arrivalFrom file below net =
-    cond (isInput file net) 0 (maxBelow (pinCount file net) (λ p. getD below (pin file net p) 0) + delay file net)
+arrivalFrom file below net = cond (isInput file net) 0 (latestPin file below net + delay file net)
 
 -- The arrivals of the first n nets, and the arrival of a net.
 unfoldable pub arrivals : File → ℕ → List ℕ

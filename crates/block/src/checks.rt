@@ -1,6 +1,6 @@
 // Checks 4 to 9, on the fields of one record.
 ghost use mathlib.Core.Path.{_≡_};
-ghost use Prim.Native.Nat.{ℕ, _+_, _*_, _<_, _≤_};
+ghost use Prim.Native.Nat.{_+_, _≤_};
 ghost use Rattle.block.specs.declared.Verdict.the-variants.{Refused};
 ghost use Rattle.block.specs.Record.{HasRecord, pinCount};
 ghost use Rattle.block.specs.Block.{inputsBelow};

@@ -1,6 +1,6 @@
 // The block file: its records, what a gate's kind decides, and the reader.
 ghost use mathlib.Core.Path.{_≡_};
-ghost use Prim.Native.Nat.{_*_, _≤_, _<_};
+ghost use Prim.Native.Nat.{_*_, _<_};
 ghost use Rattle.block.specs.Verdict.{refusal};
 ghost use Rattle.block.specs.declared.ReadAnswer.the-variants.{Refused};
 ghost use Rattle.block.specs.Refusals.{readOf};

@@ -1,11 +1,11 @@
 // Checks 4 to 10 on a record, and the records of a file in order.
 ghost use mathlib.Core.Path.{_≡_};
-ghost use Prim.Native.Nat.{ℕ, _+_, _*_, _<_, _≤_, max};
-ghost use lib.ListN.{length, getD, take};
-ghost use Rattle.laws.specs.Below.{maxBelow, digit};
+ghost use Prim.Native.Nat.{_<_, _≤_, max};
+ghost use lib.ListN.{take};
+ghost use Rattle.laws.specs.Below.{digit};
 ghost use Rattle.block.specs.declared.Verdict.the-variants.{Accepted};
-ghost use Rattle.block.specs.Record.{HasRecord, netCount, pinCount, pin, isInput};
-ghost use Rattle.block.specs.Block.{arrivalFrom};
+ghost use Rattle.block.specs.Record.{HasRecord, netCount, isInput};
+ghost use Rattle.block.specs.Block.{latestPin, arrivalFrom};
 ghost use Rattle.block.specs.Verdict.{verdict};
 ghost use Rattle.block.specs.Refusals.{fieldChecks, recordsFrom, answerTo};
 ghost use Rattle.block.specs.Accepted.{GateRecord};
@@ -25,7 +25,7 @@ fn greater(a: usize, b: usize) -> usize
 // The greatest arrival of a gate's pins.
 fn latest_pin(file: &[u8], net: Net, earlier: &[u8; 1024]) -> usize
     requires { ⌜ HasRecord (now file) (net .0) × GateRecord (now file) (net .0) ⌝ }
-    ensures { λ r. ⌜ (r ≡ maxBelow (pinCount (now (file .entry)) (net .0)) (λ p. getD (take (net .0) (now (earlier .entry))) (pin (now (file .entry)) (net .0) p) 0)) × (r < 256) ⌝ }
+    ensures { λ r. ⌜ (r ≡ latestPin (now (file .entry)) (take (net .0) (now (earlier .entry))) (net .0)) × (r < 256) ⌝ }
 {
     let pins = record::pin_count(file, net);
     let mut latest: usize = 0;

@@ -1,7 +1,6 @@
-// The fields of a record, read through the file's bytes.
+// The fields of a record, read through the file's bytes. Each is named as document 01 names it.
 ghost use mathlib.Core.Path.{_≡_};
-ghost use Prim.Native.Nat.{ℕ, _+_, _*_, _<_, _≤_};
-ghost use lib.ListN.{length};
+ghost use Prim.Native.Nat.{_<_};
 ghost use Rattle.block.specs.Record.{HasRecord, byteAt, wordAt, kind, contact, delay, pinCount, pin, rise, fall, allowed};
 use super::Net;
 

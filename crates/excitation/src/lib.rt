@@ -1,7 +1,6 @@
 // Excitations and uncertainty sets, joined by a constant table.
 ghost use mathlib.Core.Path.{_≡_};
-ghost use mathlib.Core.Bool.{Bool, true, false};
-ghost use Prim.Native.Nat.{ℕ, _<_, _≤_, _*_};
+ghost use Prim.Native.Nat.{_≤_};
 ghost use Rattle.excitation.specs.Excitation.{levelsOf};
 ghost use Rattle.excitation.specs.UncertaintySet.{code, decode, member, joinSets, invertSet, heldBeforeSet, heldAfterSet};
 ghost use Rattle.excitation.specs.Table.{startOf};

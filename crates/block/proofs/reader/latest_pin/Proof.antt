@@ -9,6 +9,7 @@ use borrow.Author.Needs.{needs}
 use Rattle.laws.specs.Below.{maxBelow}
 use Rattle.laws.proofs.Below.{max-next}
 use Rattle.block.specs.Record.{pin}
+use Rattle.block.specs.Block.{latestPin}
 use Rattle.block.proofs.reader.latest_pin.Tie as tie
 use Rattle.block.proofs.reader.latest_pin.Statement.{statement}
 
@@ -56,6 +57,7 @@ loop-again c =
     (search needs, omega arith, c .greater .ensures ∙ rw (l .inv .2, here) (sym (max-next (l .p) _)))
 
 returns : tie.Need-returns Inv-loop μ-loop
+unfolding latestPin
 returns c =
     let l = c .before .loop in
     let pins = c .before .before .pin-count .ensures .0 in
