@@ -19,7 +19,7 @@ use Rattle.block.specs.declared.Verdict.the-variants.{Accepted, Refused}
 use Rattle.block.specs.Record.{File, netCount, isInput}
 use Rattle.block.specs.Block.{arrival, inputsBelow, inputCount}
 use Rattle.block.specs.Verdict.{verdict}
-use Rattle.block.specs.Refusals.{fileChecks, inputInPlace, fieldChecks, recordChecks, recordsFrom, readChecks, answerTo, readOf}
+use Rattle.block.specs.Refusals.{fileChecks, inputInPlace, arrivalInTime, fieldChecks, recordChecks, recordsFrom, readChecks, answerTo, readOf}
 use Rattle.block.specs.Accepted.{AcceptedFile}
 use Rattle.block.proofs.Verdicts.{passed, both-accepted}
 use Rattle.block.proofs.Fields.{gate-record, input-record}
@@ -45,7 +45,7 @@ module _ (file : File) (net : ℕ) (sound : verdict (recordChecks file net) ≡ 
   fields-sound = both-accepted (fieldChecks file net) _ sound .0
 
   arrival-sound : arrival file net ≤ 255
-  unfolding recordChecks
+  unfolding recordChecks arrivalInTime
   arrival-sound = leb-true _ _ (passed 10 net _ [] (both-accepted (fieldChecks file net) _ sound .1) .0)
 
   placed : isInput file net ≡ true → (allBelow net (isInput file) ≡ true) × (inputsBelow file net < 64)

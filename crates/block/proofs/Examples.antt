@@ -10,11 +10,11 @@ use Rattle.block.specs.Kind.{kindOf}
 use Rattle.block.specs.Gate.{joinPins, gateValue}
 use Rattle.block.specs.Block.{latestPin, arrivalFrom, arrivals, inputsBelow, patternCount, fedFrom, coneSize, quietTick}
 use Rattle.block.specs.Verdict.{verdict}
-use Rattle.block.specs.Refusals.{within, zeroBytes, fileChecks, inputInPlace, inputSpareZero, unusedPinsZero, gateSpareZero, pinCountRight, pinsBelow, gateInRange, inputChecks, gateChecks, fieldChecks, recordChecks, recordsFrom, readChecks, readOf}
+use Rattle.block.specs.Refusals.{within, zeroBytes, fileChecks, kindKnown, inputInPlace, pinCountRight, inputSpareZero, unusedPinsZero, gateSpareZero, pinsBelow, gateInRange, inputInRange, arrivalInTime, inputChecks, gateChecks, fieldChecks, recordChecks, recordsFrom, readChecks, readOf}
 use Rattle.block.specs.Examples.{BlockExamples}
 
 pub block-examples : BlockExamples
-unfolding joinPins gateValue xor code member joinSets each allBelow anyBelow maxBelow countBelow productBelow inTurn decode size isInput kindOf latestPin arrivalFrom arrivals inputsBelow patternCount fedFrom coneSize quietTick verdict within zeroBytes fileChecks inputInPlace inputSpareZero unusedPinsZero gateSpareZero pinCountRight pinsBelow gateInRange inputChecks gateChecks fieldChecks recordChecks recordsFrom readChecks readOf
+unfolding joinPins gateValue xor code member joinSets each allBelow anyBelow maxBelow countBelow productBelow inTurn decode size isInput kindOf latestPin arrivalFrom arrivals inputsBelow patternCount fedFrom coneSize quietTick verdict within zeroBytes fileChecks kindKnown inputInPlace pinCountRight inputSpareZero unusedPinsZero gateSpareZero pinsBelow gateInRange inputInRange arrivalInTime inputChecks gateChecks fieldChecks recordChecks recordsFrom readChecks readOf
 block-examples = record {
   nand-of-three = refl;
   nor-of-three = refl;

@@ -14,7 +14,7 @@ use Rattle.block.specs.Record.{File, kind, contact, delay, pinCount, pin
 use Rattle.block.specs.Kind.{Kind, NONE, INPUT, AND, NAND, OR, NOR, XOR, XNOR, NOT, BUF, kindOf, ruleOf}
 use Rattle.block.specs.Block.{inputsBelow}
 use Rattle.block.specs.Verdict.{verdict}
-use Rattle.block.specs.Refusals.{within, inputInPlace, pinCountRight, pinsBelow, gateInRange, inputChecks, gateChecks, fieldChecks}
+use Rattle.block.specs.Refusals.{within, kindKnown, inputInPlace, pinCountRight, pinsBelow, gateInRange, inputInRange, inputChecks, gateChecks, fieldChecks}
 use Rattle.block.specs.Accepted.{InputRecord, GateRecord}
 use Rattle.block.proofs.Verdicts.{passed}
 
@@ -91,7 +91,7 @@ gate-ranges file net t =
     (and-left _ _ t, and-left _ _ second, and-left _ _ third, and-right (within 1 127 (rise file net)) _ third)
 
 pub gate-record : (file : File) (net : ℕ) → verdict (fieldChecks file net) ≡ Accepted → isInput file net ≡ false → GateRecord file net
-unfolding fieldChecks gateChecks pinsBelow
+unfolding fieldChecks kindKnown gateChecks pinsBelow
 gate-record file net e g =
     let p4 = passed _ _ _ _ e in
     let p6 = passed _ _ _ _ (rw g at (p4 .1)) in
@@ -118,7 +118,7 @@ gate-record file net e g =
 
 pub input-record : (file : File) (net : ℕ) → verdict (fieldChecks file net) ≡ Accepted → isInput file net ≡ true
     → InputRecord file net × (inputInPlace file net ≡ true)
-unfolding fieldChecks inputChecks
+unfolding fieldChecks inputChecks inputInRange
 input-record file net e g =
     let p5 = passed _ _ _ _ (rw g at (passed _ _ _ _ e .1)) in
     let p9 = passed _ _ _ _ (passed _ _ _ _ (p5 .1) .1) in

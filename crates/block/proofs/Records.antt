@@ -16,7 +16,7 @@ use Rattle.block.specs.declared.Verdict.the-variants.{Accepted, Refused}
 use Rattle.block.specs.Record.{File, isInput}
 use Rattle.block.specs.Block.{arrivalFrom, arrivals, arrival, inputsBelow}
 use Rattle.block.specs.Verdict.{refusal, verdict}
-use Rattle.block.specs.Refusals.{fieldChecks, recordChecks, recordsFrom}
+use Rattle.block.specs.Refusals.{arrivalInTime, fieldChecks, recordChecks, recordsFrom}
 use Rattle.block.proofs.Verdicts.{passes, fails, all-passed, refused-first, accepted-first}
 
 -- What the reader keeps, after one net more.
@@ -39,11 +39,11 @@ module _ (file : File) (net : ℕ) where
 
   module _ (sound : verdict (fieldChecks file net) ≡ Accepted) where
     pub arrives-late : 255 < arrival file net → verdict (recordChecks file net) ≡ Refused (refusal 10 net)
-    unfolding recordChecks
+    unfolding recordChecks arrivalInTime
     arrives-late h = accepted-first (fieldChecks file net) _ sound ∙ sym (fails 10 net [] (lt-leb _ _ h) refl)
 
     pub record-passes : arrival file net ≤ 255 → verdict (recordChecks file net) ≡ Accepted
-    unfolding recordChecks
+    unfolding recordChecks arrivalInTime
     record-passes h = accepted-first (fieldChecks file net) _ sound ∙ sym (passes 10 net [] (le-leb _ _ h) all-passed)
 
 -- The verdict on the records from a net on, by that on its own.

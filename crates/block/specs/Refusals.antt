@@ -22,6 +22,8 @@ within low high x = leb low x && leb x high
 unfoldable pub zeroBytes : File → ℕ → ℕ → ℕ → Bool
 zeroBytes file net k n = allBelow n (λ i. eqb (byteAt file net (k + i)) 0)
 
+-- The refusals in document 01's words. Each test passes where its refusal does not hold.
+
 -- 1. The length is not a multiple of 20.
 -- 2. There are more than 1,024 records.
 -- 3. There is no record, or the first kind is not 1.
@@ -32,26 +34,30 @@ fileChecks file =
     ∷ check 3 0 (leb 1 (netCount file) && isInput file 0)
     ∷ []
 
+-- 4. The kind is 0 or above 9.
+unfoldable pub kindKnown : File → ℕ → Bool
+kindKnown file net = within 1 9 (kind file net)
+
 -- 5. An input stands after a gate, or is the 65th.
 unfoldable pub inputInPlace : File → ℕ → Bool
 inputInPlace file net = allBelow net (isInput file) && ltb (inputsBelow file net) 64
-
--- 7. A non-zero byte stands in bytes 1 to 17 or 19 of an input, ..
-unfoldable pub inputSpareZero : File → ℕ → Bool
-inputSpareZero file net = zeroBytes file net 1 17 && zeroBytes file net 19 1
-
--- .. or in an unused pin, byte 18 or byte 19 of a gate.
-unfoldable pub unusedPinsZero : File → ℕ → Bool
-unusedPinsZero file net = allBelow (4 - pinCount file net) (λ i. eqb (pin file net (pinCount file net + i)) 0)
-
-unfoldable pub gateSpareZero : File → ℕ → Bool
-gateSpareZero file net = unusedPinsZero file net && zeroBytes file net 18 2
 
 -- 6. A gate's pin count is wrong for its kind.
 unfoldable pub pinCountRight : File → ℕ → Bool
 pinCountRight file net =
     let rule = ruleOf (kindOf (kind file net)) in
     within (rule .least) (rule .most) (pinCount file net)
+
+-- 7. A non-zero byte stands in bytes 1 to 17 or 19 of an input, or in an unused pin, byte 18 or byte 19 of a gate. (Both bytes of a
+-- pin are 0 where the pin is.)
+unfoldable pub inputSpareZero : File → ℕ → Bool
+inputSpareZero file net = zeroBytes file net 1 17 && zeroBytes file net 19 1
+
+unfoldable pub unusedPinsZero : File → ℕ → Bool
+unusedPinsZero file net = allBelow (4 - pinCount file net) (λ i. eqb (pin file net (pinCount file net + i)) 0)
+
+unfoldable pub gateSpareZero : File → ℕ → Bool
+gateSpareZero file net = unusedPinsZero file net && zeroBytes file net 18 2
 
 -- 8. A used pin is not below its own net.
 unfoldable pub pinsBelow : File → ℕ → Bool
@@ -62,11 +68,19 @@ unfoldable pub gateInRange : File → ℕ → Bool
 gateInRange file net =
     within 0 15 (contact file net) && (within 1 63 (delay file net) && (within 1 127 (rise file net) && within 1 127 (fall file net)))
 
+unfoldable pub inputInRange : File → ℕ → Bool
+inputInRange file net = within 1 15 (allowed file net)
+
+-- 10. The arrival exceeds 255.
+unfoldable pub arrivalInTime : File → ℕ → Bool
+arrivalInTime file net = leb (arrival file net) 255
+
+-- The checks on an input, and on a gate, after the kind's.
 unfoldable pub inputChecks : File → ℕ → List Check
 inputChecks file net =
     check 5 net (inputInPlace file net)
     ∷ check 7 net (inputSpareZero file net)
-    ∷ check 9 net (within 1 15 (allowed file net))
+    ∷ check 9 net (inputInRange file net)
     ∷ []
 
 unfoldable pub gateChecks : File → ℕ → List Check
@@ -77,14 +91,12 @@ gateChecks file net =
     ∷ check 9 net (gateInRange file net)
     ∷ []
 
--- 4. The kind is 0 or above 9. Then the checks 5 to 9 on an input, or on a gate.
+-- The checks on a record, 4 to 10.
 unfoldable pub fieldChecks : File → ℕ → List Check
-fieldChecks file net =
-    check 4 net (within 1 9 (kind file net)) ∷ cond (isInput file net) (inputChecks file net) (gateChecks file net)
+fieldChecks file net = check 4 net (kindKnown file net) ∷ cond (isInput file net) (inputChecks file net) (gateChecks file net)
 
--- 10. The arrival exceeds 255.
 unfoldable pub recordChecks : File → ℕ → List Check
-recordChecks file net = fieldChecks file net ++ (check 10 net (leb (arrival file net) 255) ∷ [])
+recordChecks file net = fieldChecks file net ++ (check 10 net (arrivalInTime file net) ∷ [])
 
 -- The checks on n records from a net on, 4 to 10 on one before the next.
 unfoldable pub recordsFrom : File → ℕ → ℕ → List Check

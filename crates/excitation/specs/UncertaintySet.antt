@@ -7,8 +7,6 @@ use Rattle.laws.specs.Below.{digit}
 use Rattle.excitation.specs.declared.Excitation.{Excitation}
 use Rattle.excitation.specs.Excitation.{TwoLevel, l, h, hl, lh, same, joinExcitations, invertExcitation, heldBefore, heldAfter}
 
-infix 20 _∈_
-infix 20 _⊆_
 -- Document 01's uncertainty set: which of l, h, hl and lh are its members.
 pub record UncertaintySet : Type 0 where
   pub has-l : Bool
@@ -19,6 +17,8 @@ pub record UncertaintySet : Type 0 where
 unfoldable pub member : Excitation → UncertaintySet → Bool
 member e s = cond (e .before) (cond (e .after) (s .has-h) (s .has-hl)) (cond (e .after) (s .has-lh) (s .has-l))
 
+infix 20 _∈_
+infix 20 _⊆_
 -- An excitation is a member of a set.
 abbrev pub _∈_ : Excitation → UncertaintySet → Type 0
 e ∈ s = member e s ≡ true

@@ -5,7 +5,7 @@ use borrow.Author.Tests.{eq-eqb, ne-eqb}
 use borrow.Author.Needs.{needs}
 use Rattle.laws.proofs.Tests.{refuted-at, confirmed-at}
 use Rattle.block.specs.Record.{isInput}
-use Rattle.block.specs.Refusals.{within, fieldChecks}
+use Rattle.block.specs.Refusals.{within, kindKnown, fieldChecks}
 use Rattle.block.proofs.Verdicts.{passes, fails}
 use Rattle.block.proofs.checks.check_fields.Tie as tie
 use Rattle.block.proofs.checks.check_fields.Statement.{statement}
@@ -20,14 +20,14 @@ refused-requires : tie.Need-refused-requires
 refused-requires c κs = search needs
 
 returns : tie.Need-returns
-unfolding fieldChecks
+unfolding fieldChecks kindKnown
 returns c = fails _ _ _ (refuted-at (within 1 9) (c .before .before .in-range .ensures) (c .before .before .before .kind .ensures .0) (c .before .if1 .taken)) (c .refused .ensures)
 
 check-input-requires : tie.Need-check-input-requires
 check-input-requires c κs = search needs
 
 returns-2 : tie.Need-returns-2
-unfolding fieldChecks isInput
+unfolding fieldChecks kindKnown isInput
 returns-2 c =
     let kind = c .before .before .before .before .kind .ensures .0 in
     let known = confirmed-at (within 1 9) (c .before .before .before .in-range .ensures) kind (c .before .before .if1 .left) in
@@ -37,7 +37,7 @@ check-gate-requires : tie.Need-check-gate-requires
 check-gate-requires c κs = search needs
 
 returns-3 : tie.Need-returns-3
-unfolding fieldChecks isInput
+unfolding fieldChecks kindKnown isInput
 returns-3 c =
     let kind = c .before .before .before .before .kind .ensures .0 in
     let known = confirmed-at (within 1 9) (c .before .before .before .in-range .ensures) kind (c .before .before .if1 .left) in
