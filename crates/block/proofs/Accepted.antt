@@ -8,19 +8,23 @@ use mathlib.Core.Logic.{⊎-elim}
 use native.Mathlib.Nat.{eq-or-lt-of-le}
 use native.Mathlib.Omega.{arith}
 use lib.Dec.{leb}
-use lib.ListN.{length}
+use lib.ListN.{length, getD}
 use borrow.Author.Tests.{leb-true, ltb-true, eqb-true}
 use Rattle.laws.specs.Below.{allBelow}
 use Rattle.laws.proofs.Tests.{and-left, and-right}
 use Rattle.laws.proofs.Below.{count-of-all, count-at-most, count-first}
+use Rattle.laws.proofs.Turn.{turn-at}
+use Rattle.excitation.specs.declared.Excitation.{Excitation}
+use Rattle.excitation.specs.UncertaintySet.{_∈_, decode}
+use Rattle.excitation.proofs.Codes.{some-member}
 use Rattle.block.specs.declared.ReadAnswer.the-variants as answer
 use Rattle.block.specs.declared.Verdict.{Verdict}
 use Rattle.block.specs.declared.Verdict.the-variants.{Accepted, Refused}
-use Rattle.block.specs.Record.{File, netCount, isInput}
-use Rattle.block.specs.Block.{arrival, inputsBelow, inputCount}
+use Rattle.block.specs.Record.{File, HasRecord, netCount, allowed, isInput}
+use Rattle.block.specs.Block.{arrivalFrom, arrivals, arrival, inputsBelow, inputCount}
 use Rattle.block.specs.Verdict.{verdict}
 use Rattle.block.specs.Refusals.{fileChecks, inputInPlace, arrivalInTime, fieldChecks, recordChecks, recordsFrom, readChecks, answerTo, readOf}
-use Rattle.block.specs.Accepted.{AcceptedFile}
+use Rattle.block.specs.Accepted.{InputRecord, AcceptedFile}
 use Rattle.block.proofs.Verdicts.{passed, both-accepted}
 use Rattle.block.proofs.Fields.{gate-record, input-record}
 
@@ -116,3 +120,20 @@ accepted file nets inputs e =
       gate = λ net low high. gate-record file net (fields-sound file net (sound net high)) (are net high .1 (omega arith));
       arrives = λ net h. arrival-sound file net (sound net h);
     }
+
+-- What callers ask of an accepted file.
+
+pub has-record : (file : File) (nets inputs net : ℕ) → AcceptedFile file nets inputs → net < nets → HasRecord file net
+has-record file nets inputs net a h =
+    let whole = a .whole in
+    let few = a .few-nets in
+    record { whole = omega arith; numbered = omega arith }
+
+-- No input's set is empty.
+pub allows-some : (file : File) (net : ℕ) → InputRecord file net → (e : Excitation) × (e ∈ decode (allowed file net))
+allows-some file net i = some-member (allowed file net) (i .allowed-low) (let high = i .allowed-high in omega arith)
+
+-- An arrival, once made, is the net's.
+pub arrival-at : (file : File) (n net : ℕ) → net < n → getD (arrivals file n) net 0 ≡ arrival file net
+unfolding arrivals
+arrival-at file n net h = turn-at (arrivalFrom file) n net 0 h
