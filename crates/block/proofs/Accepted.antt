@@ -70,7 +70,8 @@ file-sound file e =
 
 module _ (file : File) (nets : ℕ) (sound : (net : ℕ) → net < nets → verdict (recordChecks file net) ≡ Accepted) where
   -- The inputs are the first nets.
-  inputs-are : (net : ℕ) → net < nets → (net < inputsBelow file nets → isInput file net ≡ true) × (inputsBelow file nets ≤ net → isInput file net ≡ false)
+  inputs-are : (net : ℕ) → net < nets
+      → (net < inputsBelow file nets → isInput file net ≡ true) × (inputsBelow file nets ≤ net → isInput file net ≡ false)
   unfolding inputsBelow
   inputs-are = count-first nets (isInput file) (λ net h i. placed file net (sound net h) i .0)
 

@@ -7,7 +7,7 @@ use native.Mathlib.Omega.{arith}
 use lib.Dec.{leb, ltb}
 use borrow.Author.Tests.{leb-true, ltb-true, eqb-false, eq-eqb, ne-eqb, lt-ltb, le-ltb}
 use Rattle.laws.specs.Below.{allBelow}
-use Rattle.laws.proofs.Tests.{and-left, and-right, and-both, and-second-fails}
+use Rattle.laws.proofs.Tests.{and-left, and-right, and-both, and-first-fails, and-second-fails}
 use Rattle.laws.proofs.Below.{all-at, all-of-count, not-all-of-count}
 use Rattle.block.specs.declared.Verdict.the-variants.{Accepted}
 use Rattle.block.specs.Record.{File, kind, contact, delay, pinCount, pin, rise, fall, isInput}
@@ -30,7 +30,7 @@ within-high low high x t = leb-true x high (and-right (leb low x) (leb x high) t
 module _ (file : File) (net inputs : ℕ) (counted : inputs ≡ inputsBelow file net) where
   pub after-gate : (inputs ≡ net → ⊥) → inputInPlace file net ≡ false
   unfolding inputInPlace inputsBelow
-  after-gate h = rw (not-all-of-count net (isInput file) (λ e. h (counted ∙ e))) refl
+  after-gate h = and-first-fails _ (not-all-of-count net (isInput file) (λ e. h (counted ∙ e)))
 
   pub past-64 : 64 ≤ inputs → inputInPlace file net ≡ false
   unfolding inputInPlace
@@ -83,7 +83,10 @@ gate-kind file net e = eqb-false _ _ e
 -- Checks 4 to 9 passed on a gate, and on an input.
 
 gate-ranges : (file : File) (net : ℕ) → gateInRange file net ≡ true
-    → (within 0 15 (contact file net) ≡ true) × (within 1 63 (delay file net) ≡ true) × (within 1 127 (rise file net) ≡ true) × (within 1 127 (fall file net) ≡ true)
+    → (within 0 15 (contact file net) ≡ true)
+    × (within 1 63 (delay file net) ≡ true)
+    × (within 1 127 (rise file net) ≡ true)
+    × (within 1 127 (fall file net) ≡ true)
 unfolding gateInRange
 gate-ranges file net t =
     let second = and-right (within 0 15 (contact file net)) _ t in

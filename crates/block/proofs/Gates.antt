@@ -17,7 +17,8 @@ join-pins-contains f a s m none = m
 join-pins-contains f a s m (more {a = b} {b = t} n rest) =
     join-pins-contains f (joinExcitations f a b) (joinSets f s t) (join-contains f a b s t m n) rest
 
-invert-contains : (inverts : Bool) (a : Excitation) (s : UncertaintySet) → a ∈ s → cond inverts (invertExcitation a) a ∈ cond inverts (invertSet s) s
+invert-contains : (inverts : Bool) (a : Excitation) (s : UncertaintySet) → a ∈ s
+    → cond inverts (invertExcitation a) a ∈ cond inverts (invertSet s) s
 invert-contains true a s m = each-contains invertExcitation a s m
 invert-contains false a s m = m
 

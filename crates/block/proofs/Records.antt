@@ -21,11 +21,13 @@ use Rattle.block.proofs.Verdicts.{passes, fails, all-passed, refused-fi
 
 -- What the reader keeps, after one net more.
 
-pub counted-next : (file : File) (net inputs : ℕ) → inputs ≡ inputsBelow file net → inputs + digit (isInput file net) ≡ inputsBelow file (net + 1)
+pub counted-next : (file : File) (net inputs : ℕ) → inputs ≡ inputsBelow file net
+    → inputs + digit (isInput file net) ≡ inputsBelow file (net + 1)
 unfolding inputsBelow
 counted-next file net inputs e = rw e (sym (count-next net (isInput file)))
 
-pub arrived-next : (file : File) (net : ℕ) (earlier : List ℕ) (a : ℕ) → net < length earlier → take net earlier ≡ arrivals file net → a ≡ arrival file net
+pub arrived-next : (file : File) (net : ℕ) (earlier : List ℕ) (a : ℕ) → net < length earlier
+    → take net earlier ≡ arrivals file net → a ≡ arrival file net
     → take (net + 1) (set earlier net a) ≡ arrivals file (net + 1)
 unfolding arrivals
 arrived-next file net earlier a h e v =
@@ -52,10 +54,12 @@ module _ (file : File) (net nets : ℕ) where
   unfolding recordsFrom
   first-of h = let e : nets - net ≡ suc (nets - (net + 1)) = omega arith in rw (e, add-one net) refl
 
-  pub records-refused : net < nets → (r : Refusal) → verdict (recordChecks file net) ≡ Refused r → verdict (recordsFrom file net (nets - net)) ≡ Refused r
+  pub records-refused : net < nets → (r : Refusal) → verdict (recordChecks file net) ≡ Refused r
+      → verdict (recordsFrom file net (nets - net)) ≡ Refused r
   records-refused h r e = ap verdict (first-of h) ∙ refused-first (recordChecks file net) _ r e
 
-  pub records-next : net < nets → verdict (recordChecks file net) ≡ Accepted → verdict (recordsFrom file (net + 1) (nets - (net + 1))) ≡ verdict (recordsFrom file net (nets - net))
+  pub records-next : net < nets → verdict (recordChecks file net) ≡ Accepted
+      → verdict (recordsFrom file (net + 1) (nets - (net + 1))) ≡ verdict (recordsFrom file net (nets - net))
   records-next h e = sym (ap verdict (first-of h) ∙ accepted-first (recordChecks file net) _ e)
 
   pub records-end : nets ≤ net → verdict (recordsFrom file net (nets - net)) ≡ Accepted

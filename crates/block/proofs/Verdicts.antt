@@ -2,7 +2,7 @@
 -- list says of each of its checks.
 -- Assumes nothing.
 use Prim.Native.Nat.{ℕ}
-use mathlib.Core.Path.{_≡_, refl}
+use mathlib.Core.Path.{_≡_, refl, sym}
 use mathlib.Core.Bool.{Bool, true, false}
 use mathlib.Core.List.{List, [], _∷_, _++_}
 use native.Mathlib.Omega.{arith}
@@ -10,6 +10,12 @@ use Rattle.block.specs.declared.Refusal.{Refusal}
 use Rattle.block.specs.declared.Verdict.{Verdict}
 use Rattle.block.specs.declared.Verdict.the-variants.{Accepted, Refused}
 use Rattle.block.specs.Verdict.{Check, check, refusal, verdict}
+
+-- No verdict is both.
+pub apart : {P : Type 0} (r : Refusal) → Refused r ≡ Accepted → P
+apart r e = absurd (let z : _≡_ {A = ℕ} 0 1 = cc in omega arith)
+
+-- Check by check, as code goes.
 
 pub passes : (number place : ℕ) {b : Bool} (rest : List Check) {v : Verdict} → b ≡ true → v ≡ verdict rest
     → v ≡ verdict (check number place b ∷ rest)
@@ -29,7 +35,7 @@ all-passed = refl
 
 pub refused-first : (s t : List Check) (r : Refusal) → verdict s ≡ Refused r → verdict (s ++ t) ≡ Refused r
 unfolding verdict
-refused-first [] t r e = absurd (let z : _≡_ {A = ℕ} 0 1 = cc in omega arith)
+refused-first [] t r e = apart r (sym e)
 refused-first (check number place true ∷ s) t r e = refused-first s t r e
 refused-first (check number place false ∷ s) t r e = e
 
@@ -37,7 +43,7 @@ pub accepted-first : (s t : List Check) → verdict s ≡ Accepted → verdict (
 unfolding verdict
 accepted-first [] t e = refl
 accepted-first (check number place true ∷ s) t e = accepted-first s t e
-accepted-first (check number place false ∷ s) t e = absurd (let z : _≡_ {A = ℕ} 0 1 = cc in omega arith)
+accepted-first (check number place false ∷ s) t e = apart _ e
 
 -- What an accepted list says.
 
@@ -45,14 +51,10 @@ pub passed : (number place : ℕ) (b : Bool) (rest : List Check) → verdict (ch
     → (b ≡ true) × (verdict rest ≡ Accepted)
 unfolding verdict
 passed number place true rest e = (refl, e)
-passed number place false rest e = absurd (let z : _≡_ {A = ℕ} 0 1 = cc in omega arith)
+passed number place false rest e = apart _ e
 
 pub both-accepted : (s t : List Check) → verdict (s ++ t) ≡ Accepted → (verdict s ≡ Accepted) × (verdict t ≡ Accepted)
 unfolding verdict
 both-accepted [] t e = (refl, e)
 both-accepted (check number place true ∷ s) t e = both-accepted s t e
-both-accepted (check number place false ∷ s) t e = absurd (let z : _≡_ {A = ℕ} 0 1 = cc in omega arith)
-
--- No verdict is both.
-pub apart : {P : Type 0} (r : Refusal) → Refused r ≡ Accepted → P
-apart r e = absurd (let z : _≡_ {A = ℕ} 0 1 = cc in omega arith)
+both-accepted (check number place false ∷ s) t e = apart _ e

@@ -4,8 +4,8 @@ use mathlib.Core.Bool.{Bool, false, cond, _||_}
 use mathlib.Core.List.{List}
 use lib.Dec.{eqb}
 use lib.ListN.{getD}
-use Rattle.laws.specs.Below.{anyBelow, maxBelow, countBelow, productBelow, listBelow}
-use Rattle.laws.specs.Turn.{inTurn}
+use Rattle.laws.specs.Below.{anyBelow, maxBelow, countBelow, productBelow}
+use Rattle.laws.specs.Turn.{inTurn, listBelow}
 use Rattle.excitation.specs.UncertaintySet.{UncertaintySet, decode, size}
 use Rattle.block.specs.Record.{File, netCount, isInput, delay, pinCount, pin, rise, fall, allowed}
 

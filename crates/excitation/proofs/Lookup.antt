@@ -5,8 +5,8 @@ use Prim.Native.Nat.{ℕ, _+_, _*_, _/_, _%_, _<_}
 use mathlib.Core.Path.{_≡_, refl, ap, _∙_}
 use native.Mathlib.Omega.{arith}
 use lib.ListN.{getD}
-use Rattle.laws.specs.Below.{listBelow}
-use Rattle.laws.proofs.Below.{list-at}
+use Rattle.laws.specs.Turn.{listBelow}
+use Rattle.laws.proofs.Turn.{list-at}
 use Rattle.excitation.specs.declared.Join.the-variants as by
 use Rattle.excitation.specs.declared.Excitation.{Excitation}
 use Rattle.excitation.specs.declared.Join.{Join}
@@ -29,7 +29,8 @@ third-at n a b h =
     let r : k % 16 ≡ b % 16 = omega arith in
     list-at 768 joinEntry k 0 (omega arith) ∙ rw (p, q, r, decode-low a, decode-low b) refl
 
-pub join-at : (by : Join) (a b : ℕ) → getD (listBelow 768 joinEntry) (startOf by + 16 * (a % 16) + b % 16) 0 ≡ code (joinSets (levelsOf by) (decode a) (decode b))
+pub join-at : (by : Join) (a b : ℕ)
+    → getD (listBelow 768 joinEntry) (startOf by + 16 * (a % 16) + b % 16) 0 ≡ code (joinSets (levelsOf by) (decode a) (decode b))
 join-at by.And a b = third-at 0 a b (omega arith)
 join-at by.Or a b = third-at 1 a b (omega arith)
 join-at by.Xor a b = third-at 2 a b (omega arith)

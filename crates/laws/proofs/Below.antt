@@ -1,16 +1,13 @@
 -- Laws of what is defined over the numbers below n.
 -- Assumes nothing.
 use Prim.Native.Nat.{ℕ, zero, suc, _+_, _≤_, _<_, max}
-use mathlib.Core.Path.{_≡_, refl, _∙_}
+use mathlib.Core.Path.{_≡_, refl}
 use mathlib.Core.Bool.{Bool, true, false}
-use mathlib.Core.List.{[], _∷_}
 use mathlib.Core.Logic.{⊎-elim}
 use native.Mathlib.Nat.{not-suc-le-zero, eq-or-lt-of-le, le-of-suc-le-suc}
 use native.Mathlib.Numerals.{add-one}
 use native.Mathlib.Omega.{arith}
-use lib.ListN.{length, getD, length-append, List·getD-append}
-use lib.Seq.{getD-at}
-use Rattle.laws.specs.Below.{allBelow, maxBelow, digit, countBelow, listBelow}
+use Rattle.laws.specs.Below.{allBelow, maxBelow, digit, countBelow}
 use Rattle.laws.proofs.Tests.{and-left, and-right, and-both, and-second-fails, by-test}
 
 -- One number more, as a loop counts.
@@ -69,21 +66,6 @@ all-of-count (suc n) p e =
 
 pub not-all-of-count : (n : ℕ) (p : ℕ → Bool) → (countBelow n p ≡ n → ⊥) → allBelow n p ≡ false
 not-all-of-count n p h = by-test (allBelow n p) (λ t. absurd (h (count-of-all n p t))) (λ t. t)
-
--- The list of the values of f below n has them in their places.
-
-pub list-length : {A : Type 0} (n : ℕ) (f : ℕ → A) → length (listBelow n f) ≡ n
-unfolding listBelow
-list-length zero f = refl
-list-length (suc n) f = length-append (listBelow n f) (f n ∷ []) ∙ rw (list-length n f) (add-one n)
-
-pub list-at : {A : Type 0} (n : ℕ) (f : ℕ → A) (k : ℕ) (d : A) → k < n → getD (listBelow n f) k d ≡ f k
-unfolding listBelow
-list-at zero f k d h = absurd (not-suc-le-zero h)
-list-at (suc n) f k d h =
-    ⊎-elim (λ (q : k ≡ n). rw q (getD-at (listBelow n f) (f n) [] d n (list-length n f)))
-    (λ l. List·getD-append (listBelow n f) _ d k (rw list-length l) ∙ list-at n f k d l)
-    (eq-or-lt-of-le (le-of-suc-le-suc h))
 
 -- Where p passes only at numbers below which it always passes, it passes exactly at the first ones.
 pub count-first : (n : ℕ) (p : ℕ → Bool) → ((k : ℕ) → k < n → p k ≡ true → allBelow k p ≡ true)

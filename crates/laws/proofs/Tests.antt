@@ -14,6 +14,9 @@ and-right a b e = and-eq-true-iff a b .0 e .1
 pub and-both : {a b : Bool} → a ≡ true → b ≡ true → (a && b) ≡ true
 and-both {a} {b} s t = and-eq-true-iff a b .1 (s, t)
 
+pub and-first-fails : {a : Bool} (b : Bool) → a ≡ false → (a && b) ≡ false
+and-first-fails b e = rw e refl
+
 pub and-second-fails : (a : Bool) {b : Bool} → b ≡ false → (a && b) ≡ false
 and-second-fails true e = e
 and-second-fails false e = refl

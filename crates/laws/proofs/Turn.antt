@@ -8,7 +8,7 @@ use native.Mathlib.Nat.{not-suc-le-zero, eq-or-lt-of-le, le-of-suc-le-suc}
 use native.Mathlib.Numerals.{add-one}
 use lib.ListN.{length, getD, length-append, List·getD-append}
 use lib.Seq.{getD-at}
-use Rattle.laws.specs.Turn.{inTurn}
+use Rattle.laws.specs.Turn.{inTurn, listBelow}
 
 module _ {A : Type 0} (make : List A → ℕ → A) where
   pub turn-next : (n : ℕ) → inTurn make (n + 1) ≡ inTurn make n ++ (make (inTurn make n) n ∷ [])
@@ -28,3 +28,7 @@ module _ {A : Type 0} (make : List A → ℕ → A) where
       ⊎-elim (λ (q : i ≡ n). rw q (getD-at (inTurn make n) (make (inTurn make n) n) [] d n (turn-length n)))
       (λ l. List·getD-append (inTurn make n) _ d i (rw turn-length l) ∙ turn-at n i d l)
       (eq-or-lt-of-le (le-of-suc-le-suc h))
+
+pub list-at : {A : Type 0} (n : ℕ) (f : ℕ → A) (k : ℕ) (d : A) → k < n → getD (listBelow n f) k d ≡ f k
+unfolding listBelow
+list-at n f k d h = turn-at (λ made k. f k) n k d h

@@ -1,7 +1,6 @@
--- Tests, counts, the greatest, products and lists over the numbers below n. Each is defined by one number more.
+-- Tests, counts, the greatest and products over the numbers below n. Each is defined by one number more.
 use Prim.Native.Nat.{ℕ, zero, suc, _+_, _*_, max}
 use mathlib.Core.Bool.{Bool, true, false, _&&_, _||_}
-use mathlib.Core.List.{List, [], _∷_, _++_}
 
 -- Whether p passes at every number below n.
 unfoldable pub allBelow : ℕ → (ℕ → Bool) → Bool
@@ -32,8 +31,3 @@ countBelow (suc n) p = countBelow n p + digit (p n)
 unfoldable pub productBelow : ℕ → (ℕ → ℕ) → ℕ
 productBelow zero f = 1
 productBelow (suc n) f = productBelow n f * f n
-
--- The values of f below n, in order.
-unfoldable pub listBelow : {A : Type 0} → ℕ → (ℕ → A) → List A
-listBelow zero f = []
-listBelow (suc n) f = listBelow n f ++ (f n ∷ [])

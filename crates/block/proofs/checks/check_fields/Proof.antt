@@ -21,7 +21,10 @@ refused-requires c κs = search needs
 
 returns : tie.Need-returns
 unfolding fieldChecks kindKnown
-returns c = fails _ _ _ (refuted-at (within 1 9) (c .before .before .in-range .ensures) (c .before .before .before .kind .ensures .0) (c .before .if1 .taken)) (c .refused .ensures)
+returns c =
+    let at4 = c .before in
+    let fails4 = refuted-at (within 1 9) (at4 .before .in-range .ensures) (at4 .before .before .kind .ensures .0) (at4 .if1 .taken) in
+    fails _ _ _ fails4 (c .refused .ensures)
 
 check-input-requires : tie.Need-check-input-requires
 check-input-requires c κs = search needs

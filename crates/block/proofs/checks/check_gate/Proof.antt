@@ -1,4 +1,4 @@
--- `block::checks::check_gate` meets its contract.
+-- `block::checks::check_gate` meets its contract. Each return goes through the list of checks up to the one that decided it.
 -- Assumes nothing.
 use borrow.Author.Needs.{needs}
 use Rattle.laws.proofs.Tests.{refuted, confirmed}
@@ -16,7 +16,10 @@ refused-requires c κs = search needs
 
 returns : tie.Need-returns
 unfolding gateChecks
-returns c = fails _ _ _ (refuted (c .before .before .pin-count-right .ensures) (c .before .if1 .taken)) (c .refused .ensures)
+returns c =
+    let at6 = c .before in
+    let fails6 = refuted (at6 .before .pin-count-right .ensures) (at6 .if1 .taken) in
+    fails _ _ _ fails6 (c .refused .ensures)
 
 gate-spare-zero-requires : tie.Need-gate-spare-zero-requires
 gate-spare-zero-requires c κs = (search needs, four-pins _ _ (confirmed (c .before .pin-count-right .ensures) (c .if1 .left)))
@@ -26,7 +29,12 @@ refused-requires-2 c κs = search needs
 
 returns-2 : tie.Need-returns-2
 unfolding gateChecks
-returns-2 c = passes _ _ _ (confirmed (c .before .before .before .before .pin-count-right .ensures) (c .before .before .before .if1 .left)) (fails _ _ _ (refuted (c .before .before .gate-spare-zero .ensures) (c .before .if2 .taken)) (c .refused2 .ensures))
+returns-2 c =
+    let at7 = c .before in
+    let fails7 = refuted (at7 .before .gate-spare-zero .ensures) (at7 .if2 .taken) in
+    let at6 = at7 .before .before in
+    let passes6 = confirmed (at6 .before .pin-count-right .ensures) (at6 .if1 .left) in
+    passes _ _ _ passes6 (fails _ _ _ fails7 (c .refused2 .ensures))
 
 pins-below-requires : tie.Need-pins-below-requires
 pins-below-requires c κs = (search needs, four-pins _ _ (confirmed (c .before .before .before .pin-count-right .ensures) (c .before .before .if1 .left)))
@@ -36,7 +44,14 @@ refused-requires-3 c κs = search needs
 
 returns-3 : tie.Need-returns-3
 unfolding gateChecks
-returns-3 c = passes _ _ _ (confirmed (c .before .before .before .before .before .before .pin-count-right .ensures) (c .before .before .before .before .before .if1 .left)) (passes _ _ _ (confirmed (c .before .before .before .before .gate-spare-zero .ensures) (c .before .before .before .if2 .left)) (fails _ _ _ (refuted (c .before .before .pins-below .ensures) (c .before .if3 .taken)) (c .refused3 .ensures)))
+returns-3 c =
+    let at8 = c .before in
+    let fails8 = refuted (at8 .before .pins-below .ensures) (at8 .if3 .taken) in
+    let at7 = at8 .before .before in
+    let passes7 = confirmed (at7 .before .gate-spare-zero .ensures) (at7 .if2 .left) in
+    let at6 = at7 .before .before in
+    let passes6 = confirmed (at6 .before .pin-count-right .ensures) (at6 .if1 .left) in
+    passes _ _ _ passes6 (passes _ _ _ passes7 (fails _ _ _ fails8 (c .refused3 .ensures)))
 
 gate-in-range-requires : tie.Need-gate-in-range-requires
 gate-in-range-requires c κs = search needs
@@ -46,11 +61,29 @@ refused-requires-4 c κs = search needs
 
 returns-4 : tie.Need-returns-4
 unfolding gateChecks
-returns-4 c = passes _ _ _ (confirmed (c .before .before .before .before .before .before .before .before .pin-count-right .ensures) (c .before .before .before .before .before .before .before .if1 .left)) (passes _ _ _ (confirmed (c .before .before .before .before .before .before .gate-spare-zero .ensures) (c .before .before .before .before .before .if2 .left)) (passes _ _ _ (confirmed (c .before .before .before .before .pins-below .ensures) (c .before .before .before .if3 .left)) (fails _ _ _ (refuted (c .before .before .gate-in-range .ensures) (c .before .if4 .taken)) (c .refused4 .ensures))))
+returns-4 c =
+    let at9 = c .before in
+    let fails9 = refuted (at9 .before .gate-in-range .ensures) (at9 .if4 .taken) in
+    let at8 = at9 .before .before in
+    let passes8 = confirmed (at8 .before .pins-below .ensures) (at8 .if3 .left) in
+    let at7 = at8 .before .before in
+    let passes7 = confirmed (at7 .before .gate-spare-zero .ensures) (at7 .if2 .left) in
+    let at6 = at7 .before .before in
+    let passes6 = confirmed (at6 .before .pin-count-right .ensures) (at6 .if1 .left) in
+    passes _ _ _ passes6 (passes _ _ _ passes7 (passes _ _ _ passes8 (fails _ _ _ fails9 (c .refused4 .ensures))))
 
 returns-5 : tie.Need-returns-5
 unfolding gateChecks
-returns-5 c = passes _ _ _ (confirmed (c .before .before .before .before .before .before .before .pin-count-right .ensures) (c .before .before .before .before .before .before .if1 .left)) (passes _ _ _ (confirmed (c .before .before .before .before .before .gate-spare-zero .ensures) (c .before .before .before .before .if2 .left)) (passes _ _ _ (confirmed (c .before .before .before .pins-below .ensures) (c .before .before .if3 .left)) (passes _ _ _ (confirmed (c .before .gate-in-range .ensures) (c .if4 .left)) all-passed)))
+returns-5 c =
+    let at9 = c in
+    let passes9 = confirmed (at9 .before .gate-in-range .ensures) (at9 .if4 .left) in
+    let at8 = at9 .before .before in
+    let passes8 = confirmed (at8 .before .pins-below .ensures) (at8 .if3 .left) in
+    let at7 = at8 .before .before in
+    let passes7 = confirmed (at7 .before .gate-spare-zero .ensures) (at7 .if2 .left) in
+    let at6 = at7 .before .before in
+    let passes6 = confirmed (at6 .before .pin-count-right .ensures) (at6 .if1 .left) in
+    passes _ _ _ passes6 (passes _ _ _ passes7 (passes _ _ _ passes8 (passes _ _ _ passes9 all-passed)))
 
 pub check-gate-spec : {M : Type 1} → statement M
 check-gate-spec =

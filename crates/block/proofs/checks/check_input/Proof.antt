@@ -1,4 +1,4 @@
--- `block::checks::check_input` meets its contract.
+-- `block::checks::check_input` meets its contract. Each return goes through the list of checks up to the one that decided it.
 -- Assumes nothing.
 use borrow.Author.Needs.{needs}
 use Rattle.laws.proofs.Tests.{refuted, confirmed, refuted-at, confirmed-at}
@@ -30,7 +30,12 @@ refused-requires-3 c κs = search needs
 
 returns-3 : tie.Need-returns-3
 unfolding inputChecks inputInRange
-returns-3 c = passes _ _ _ (in-place _ _ _ (c .before .before .before .before .before .before .before .pre .1) (c .before .before .before .before .if1 .left) (c .before .before .before .if2 .left)) (fails _ _ _ (refuted (c .before .before .input-spare-zero .ensures) (c .before .if3 .taken)) (c .refused3 .ensures))
+returns-3 c =
+    let at7 = c .before in
+    let fails7 = refuted (at7 .before .input-spare-zero .ensures) (at7 .if3 .taken) in
+    let at5 = at7 .before .before in
+    let passes5 = in-place _ _ _ (at5 .before .before .before .before .pre .1) (at5 .before .if1 .left) (at5 .if2 .left) in
+    passes _ _ _ passes5 (fails _ _ _ fails7 (c .refused3 .ensures))
 
 allowed-requires : tie.Need-allowed-requires
 allowed-requires c κs = search needs
@@ -43,11 +48,25 @@ refused-requires-4 c κs = search needs
 
 returns-4 : tie.Need-returns-4
 unfolding inputChecks inputInRange
-returns-4 c = passes _ _ _ (in-place _ _ _ (c .before .before .before .before .before .before .before .before .before .before .pre .1) (c .before .before .before .before .before .before .before .if1 .left) (c .before .before .before .before .before .before .if2 .left)) (passes _ _ _ (confirmed (c .before .before .before .before .before .input-spare-zero .ensures) (c .before .before .before .before .if3 .left)) (fails _ _ _ (refuted-at (within 1 15) (c .before .before .in-range .ensures) (c .before .before .before .allowed .ensures .0) (c .before .if4 .taken)) (c .refused4 .ensures)))
+returns-4 c =
+    let at9 = c .before in
+    let fails9 = refuted-at (within 1 15) (at9 .before .in-range .ensures) (at9 .before .before .allowed .ensures .0) (at9 .if4 .taken) in
+    let at7 = at9 .before .before .before in
+    let passes7 = confirmed (at7 .before .input-spare-zero .ensures) (at7 .if3 .left) in
+    let at5 = at7 .before .before in
+    let passes5 = in-place _ _ _ (at5 .before .before .before .before .pre .1) (at5 .before .if1 .left) (at5 .if2 .left) in
+    passes _ _ _ passes5 (passes _ _ _ passes7 (fails _ _ _ fails9 (c .refused4 .ensures)))
 
 returns-5 : tie.Need-returns-5
 unfolding inputChecks inputInRange
-returns-5 c = passes _ _ _ (in-place _ _ _ (c .before .before .before .before .before .before .before .before .before .pre .1) (c .before .before .before .before .before .before .if1 .left) (c .before .before .before .before .before .if2 .left)) (passes _ _ _ (confirmed (c .before .before .before .before .input-spare-zero .ensures) (c .before .before .before .if3 .left)) (passes _ _ _ (confirmed-at (within 1 15) (c .before .in-range .ensures) (c .before .before .allowed .ensures .0) (c .if4 .left)) all-passed))
+returns-5 c =
+    let at9 = c in
+    let passes9 = confirmed-at (within 1 15) (at9 .before .in-range .ensures) (at9 .before .before .allowed .ensures .0) (at9 .if4 .left) in
+    let at7 = at9 .before .before .before in
+    let passes7 = confirmed (at7 .before .input-spare-zero .ensures) (at7 .if3 .left) in
+    let at5 = at7 .before .before in
+    let passes5 = in-place _ _ _ (at5 .before .before .before .before .pre .1) (at5 .before .if1 .left) (at5 .if2 .left) in
+    passes _ _ _ passes5 (passes _ _ _ passes7 (passes _ _ _ passes9 all-passed))
 
 pub check-input-spec : {M : Type 1} → statement M
 check-input-spec =

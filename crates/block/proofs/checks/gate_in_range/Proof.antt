@@ -15,7 +15,9 @@ in-range-requires c κs = search needs
 
 returns : tie.Need-returns
 unfolding gateInRange
-returns c = rw (refuted-at (within 0 15) (c .before .in-range .ensures) (c .before .before .contact .ensures .0) (c .if1 .taken)) refl
+returns c =
+    let out = refuted-at (within 0 15) (c .before .in-range .ensures) (c .before .before .contact .ensures .0) (c .if1 .taken) in
+    rw out refl
 
 delay-requires : tie.Need-delay-requires
 delay-requires c κs = search needs
@@ -25,7 +27,11 @@ in-range-requires-2 c κs = search needs
 
 returns-2 : tie.Need-returns-2
 unfolding gateInRange
-returns-2 c = rw (confirmed-at (within 0 15) (c .before .before .before .before .in-range .ensures) (c .before .before .before .before .before .contact .ensures .0) (c .before .before .before .if1 .left), refuted-at (within 1 63) (c .before .in-range2 .ensures) (c .before .before .delay .ensures .0) (c .if2 .taken)) refl
+returns-2 c =
+    let out = refuted-at (within 1 63) (c .before .in-range2 .ensures) (c .before .before .delay .ensures .0) (c .if2 .taken) in
+    let at-contact = c .before .before .before in
+    let contact = confirmed-at (within 0 15) (at-contact .before .in-range .ensures) (at-contact .before .before .contact .ensures .0) (at-contact .if1 .left) in
+    rw (contact, out) refl
 
 rise-requires : tie.Need-rise-requires
 rise-requires c κs = search needs
@@ -35,7 +41,13 @@ in-range-requires-3 c κs = search needs
 
 returns-3 : tie.Need-returns-3
 unfolding gateInRange
-returns-3 c = rw (confirmed-at (within 0 15) (c .before .before .before .before .before .before .before .in-range .ensures) (c .before .before .before .before .before .before .before .before .contact .ensures .0) (c .before .before .before .before .before .before .if1 .left), confirmed-at (within 1 63) (c .before .before .before .before .in-range2 .ensures) (c .before .before .before .before .before .delay .ensures .0) (c .before .before .before .if2 .left), refuted-at (within 1 127) (c .before .in-range3 .ensures) (c .before .before .rise .ensures .0) (c .if3 .taken)) refl
+returns-3 c =
+    let out = refuted-at (within 1 127) (c .before .in-range3 .ensures) (c .before .before .rise .ensures .0) (c .if3 .taken) in
+    let at-delay = c .before .before .before in
+    let delay = confirmed-at (within 1 63) (at-delay .before .in-range2 .ensures) (at-delay .before .before .delay .ensures .0) (at-delay .if2 .left) in
+    let at-contact = at-delay .before .before .before in
+    let contact = confirmed-at (within 0 15) (at-contact .before .in-range .ensures) (at-contact .before .before .contact .ensures .0) (at-contact .if1 .left) in
+    rw (contact, delay, out) refl
 
 fall-requires : tie.Need-fall-requires
 fall-requires c κs = search needs
@@ -45,7 +57,14 @@ in-range-requires-4 c κs = search needs
 
 returns-4 : tie.Need-returns-4
 unfolding gateInRange
-returns-4 c = rw (confirmed-at (within 0 15) (c .before .before .before .before .before .before .before .before .before .in-range .ensures) (c .before .before .before .before .before .before .before .before .before .before .contact .ensures .0) (c .before .before .before .before .before .before .before .before .if1 .left), confirmed-at (within 1 63) (c .before .before .before .before .before .before .in-range2 .ensures) (c .before .before .before .before .before .before .before .delay .ensures .0) (c .before .before .before .before .before .if2 .left), confirmed-at (within 1 127) (c .before .before .before .in-range3 .ensures) (c .before .before .before .before .rise .ensures .0) (c .before .before .if3 .left)) (c .in-range4 .ensures ∙ ap (within 1 127) (c .before .fall .ensures .0))
+returns-4 c =
+    let at-rise = c .before .before in
+    let rise = confirmed-at (within 1 127) (at-rise .before .in-range3 .ensures) (at-rise .before .before .rise .ensures .0) (at-rise .if3 .left) in
+    let at-delay = at-rise .before .before .before in
+    let delay = confirmed-at (within 1 63) (at-delay .before .in-range2 .ensures) (at-delay .before .before .delay .ensures .0) (at-delay .if2 .left) in
+    let at-contact = at-delay .before .before .before in
+    let contact = confirmed-at (within 0 15) (at-contact .before .in-range .ensures) (at-contact .before .before .contact .ensures .0) (at-contact .if1 .left) in
+    rw (contact, delay, rise) (c .in-range4 .ensures ∙ ap (within 1 127) (c .before .fall .ensures .0))
 
 pub gate-in-range-spec : {M : Type 1} → statement M
 gate-in-range-spec =

@@ -1,4 +1,4 @@
--- `block::checks::pins_below` meets its contract.
+-- `block::checks::pins_below` meets its contract. The loop's invariant: the pins passed are below the net.
 -- Assumes nothing.
 use Prim.Native.Nat.{_-_, _≤_}
 use mathlib.Core.Path.{_≡_, refl, sym}

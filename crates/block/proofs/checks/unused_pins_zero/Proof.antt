@@ -1,4 +1,4 @@
--- `block::checks::unused_pins_zero` meets its contract.
+-- `block::checks::unused_pins_zero` meets its contract. The loop's invariant: the unused pins passed are 0.
 -- Assumes nothing.
 use Prim.Native.Nat.{_+_, _-_, _≤_}
 use mathlib.Core.Path.{_≡_, refl, sym, _∙_}

@@ -1,4 +1,4 @@
--- `block::checks::zero_bytes` meets its contract.
+-- `block::checks::zero_bytes` meets its contract. The loop's invariant: the bytes passed are 0.
 -- Assumes nothing.
 use Prim.Native.Nat.{_-_, _≤_}
 use mathlib.Core.Path.{_≡_, refl, sym, _∙_}

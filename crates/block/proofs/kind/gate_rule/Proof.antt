@@ -1,4 +1,4 @@
--- `block::kind::gate_rule` meets its contract.
+-- `block::kind::gate_rule` meets its contract. Each range of the match has two kinds, and the rule is computed at both.
 -- Assumes nothing.
 use mathlib.Core.Path.{_≡_, refl, ap, sym}
 use mathlib.Core.Bool.{false}

@@ -1,4 +1,4 @@
--- `block::reader::check_record` meets its contract.
+-- `block::reader::check_record` meets its contract. The verdict on the fields comes first, then that on the arrival.
 -- Assumes nothing.
 use Prim.Native.Nat.{_%_}
 use mathlib.Core.Path.{_≡_, sym, ap, _∙_}

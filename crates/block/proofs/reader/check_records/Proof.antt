@@ -1,4 +1,5 @@
--- `block::reader::check_records` meets its contract.
+-- `block::reader::check_records` meets its contract. The loop's invariant: what is known of the nets below, and that the verdict
+-- on the records from here on is the verdict on all of them.
 -- Assumes nothing.
 use Prim.Native.Nat.{_+_, _-_, _≤_}
 use mathlib.Core.Path.{_≡_, refl, sym, ap, ap₂, _∙_}
@@ -17,7 +18,8 @@ use Rattle.block.proofs.reader.check_records.Tie as tie
 use Rattle.block.proofs.reader.check_records.Statement.{statement}
 
 abbrev Inv-loop : tie.InvT-loop
-Inv-loop file nets arrivals₀ inputs₀ net₀ arrivals inputs net = (net ≤ nets) × (inputs ≤ net) × Known file net inputs arrivals × (verdict (recordsFrom file net (nets - net)) ≡ verdict (recordsFrom file 0 nets))
+Inv-loop file nets arrivals₀ inputs₀ net₀ arrivals inputs net =
+    (net ≤ nets) × (inputs ≤ net) × Known file net inputs arrivals × (verdict (recordsFrom file net (nets - net)) ≡ verdict (recordsFrom file 0 nets))
 
 abbrev μ-loop : tie.MeasureT-loop
 μ-loop file nets arrivals₀ inputs₀ net₀ arrivals inputs net = nets - net
@@ -61,7 +63,9 @@ loop-again c =
     let checked = c .before .before .before .check-record .ensures in
     let told = c .before .enum-told .given .1 in
     let counted = ap (λ n. l .inputs + n) (c .input-digit .ensures .0) ∙ counted-next _ _ _ (l .inv .2 .counted) in
-    (omega arith, omega arith, record { counted = counted; sized = checked .sized; arrived = checked .arrived told }, records-next _ _ _ (c .before .before .before .before .before .loop-test .taken) (sym (checked .judged) ∙ told) ∙ l .inv .3)
+    let within = c .before .before .before .before .before .loop-test .taken in
+    let rest = records-next _ _ _ within (sym (checked .judged) ∙ told) ∙ l .inv .3 in
+    (omega arith, omega arith, record { counted = counted; sized = checked .sized; arrived = checked .arrived told }, rest)
 
 returns-2 : tie.Need-returns-2 Inv-loop μ-loop
 returns-2 c =

@@ -1,4 +1,4 @@
--- `block::reader::latest_pin` meets its contract.
+-- `block::reader::latest_pin` meets its contract. The loop's invariant: the greatest arrival of the pins passed.
 -- Assumes nothing.
 use Prim.Native.Nat.{_-_, _≤_, _<_}
 use mathlib.Core.Path.{_≡_, refl, sym, ap, _∙_}

@@ -1,7 +1,7 @@
--- `excitation::Set::held_after` meets its contract.
+-- `excitation::Set::held_after` meets its contract. The table in the code is compared, entry by entry, with the values of its rule.
 -- Assumes nothing.
 use borrow.Author.Needs.{needs}
-use Rattle.laws.specs.Below.{listBelow}
+use Rattle.laws.specs.Turn.{inTurn, listBelow}
 use Rattle.excitation.specs.Excitation.{heldAfter}
 use Rattle.excitation.specs.UncertaintySet.{code, decode, member, each}
 use Rattle.excitation.specs.Table.{eachEntry}
@@ -16,7 +16,7 @@ array-read-t7 : tie.Need-array-read-t7
 array-read-t7 c = search needs
 
 returns : tie.Need-returns
-unfolding listBelow eachEntry code decode member each
+unfolding inTurn listBelow eachEntry code decode member each
 returns c = each-at heldAfter (c .before .args .self .code)
 
 pub held-after-spec : {M : Type 1} → statement M

@@ -1,8 +1,8 @@
--- `excitation::Set::join` meets its contract.
+-- `excitation::Set::join` meets its contract. The table in the code is compared, entry by entry, with the values of its rule.
 -- Assumes nothing.
 use mathlib.Core.Bool.{xor}
 use borrow.Author.Needs.{needs}
-use Rattle.laws.specs.Below.{listBelow}
+use Rattle.laws.specs.Turn.{inTurn, listBelow}
 use Rattle.excitation.specs.UncertaintySet.{code, decode, member, joinSets}
 use Rattle.excitation.specs.Table.{joinEntry}
 use Rattle.excitation.proofs.Lookup.{join-at}
@@ -31,7 +31,7 @@ array-read-t15 : tie.Need-array-read-t15
 array-read-t15 c = search needs
 
 returns : tie.Need-returns
-unfolding listBelow joinEntry xor code decode member joinSets
+unfolding inTurn listBelow joinEntry xor code decode member joinSets
 returns c = rw (c .before .before .start-of .ensures .0) (join-at (c .before .before .before .args .by) _ _)
 
 pub join-spec : {M : Type 1} → statement M
