@@ -43,37 +43,37 @@ each-record file (suc n) first e net low high =
     let both = both-accepted (recordChecks file first) (recordsFrom file (suc first) n) e in
     ⊎-elim (λ (q : first ≡ net). rw q at (both .0)) (λ l. each-record file n (suc first) (both .1) net l (omega arith)) (eq-or-lt-of-le low)
 
-module _ (file : File) (net : ℕ) (sound : verdict (recordChecks file net) ≡ Accepted) where
-  fields-sound : verdict (fieldChecks file net) ≡ Accepted
+module _ (file : File) (net : ℕ) (judged : verdict (recordChecks file net) ≡ Accepted) where
+  fields-accepted : verdict (fieldChecks file net) ≡ Accepted
   unfolding recordChecks
-  fields-sound = both-accepted (fieldChecks file net) _ sound .0
+  fields-accepted = both-accepted (fieldChecks file net) _ judged .0
 
-  arrival-sound : arrival file net ≤ 255
+  arrival-in-time : arrival file net ≤ 255
   unfolding recordChecks arrivalInTime
-  arrival-sound = leb-true _ _ (passed 10 net _ [] (both-accepted (fieldChecks file net) _ sound .1) .0)
+  arrival-in-time = leb-true _ _ (passed 10 net _ [] (both-accepted (fieldChecks file net) _ judged .1) .0)
 
   placed : isInput file net ≡ true → (allBelow net (isInput file) ≡ true) × (inputsBelow file net < 64)
   unfolding inputInPlace
   placed i =
-      let p = input-record file net fields-sound i .1 in
+      let p = input-record file net fields-accepted i .1 in
       (and-left _ _ p, ltb-true _ _ (and-right (allBelow net (isInput file)) _ p))
 
 -- What the whole-file checks leave true.
-file-sound : (file : File) → verdict (fileChecks file) ≡ Accepted
+file-accepted : (file : File) → verdict (fileChecks file) ≡ Accepted
     → (length file % 20 ≡ 0) × (netCount file ≤ 1024) × (1 ≤ netCount file) × (isInput file 0 ≡ true)
 unfolding fileChecks
-file-sound file e =
+file-accepted file e =
     let p1 = passed _ _ _ _ e in
     let p2 = passed _ _ _ _ (p1 .1) in
     let p3 = passed _ _ _ _ (p2 .1) .0 in
     (eqb-true _ _ (p1 .0), leb-true _ _ (p2 .0), leb-true _ _ (and-left _ _ p3), and-right (leb 1 (netCount file)) _ p3)
 
-module _ (file : File) (nets : ℕ) (sound : (net : ℕ) → net < nets → verdict (recordChecks file net) ≡ Accepted) where
+module _ (file : File) (nets : ℕ) (judged : (net : ℕ) → net < nets → verdict (recordChecks file net) ≡ Accepted) where
   -- The inputs are the first nets.
   inputs-are : (net : ℕ) → net < nets
       → (net < inputsBelow file nets → isInput file net ≡ true) × (inputsBelow file nets ≤ net → isInput file net ≡ false)
   unfolding inputsBelow
-  inputs-are = count-first nets (isInput file) (λ net h i. placed file net (sound net h) i .0)
+  inputs-are = count-first nets (isInput file) (λ net h i. placed file net (judged net h) i .0)
 
   -- The first net is one of them.
   at-least-1 : 1 ≤ nets → isInput file 0 ≡ true → 1 ≤ inputsBelow file nets
@@ -93,7 +93,7 @@ module _ (file : File) (nets : ℕ) (sound : (net : ℕ) → net < nets → verd
       go (suc n) e =
           let most = count-at-most nets (isInput file) in
           let i = inputs-are n (omega arith) .0 (omega arith) in
-          let p = placed file n (sound n (omega arith)) i in
+          let p = placed file n (judged n (omega arith)) i in
           let c : inputsBelow file n ≡ n = count-of-all n (isInput file) (p .0) in
           omega arith
 
@@ -102,24 +102,26 @@ unfolding readOf readChecks inputsBelow
 accepted file nets inputs e =
     let v = counts-of file (verdict (readChecks file)) nets inputs e in
     let both = both-accepted (fileChecks file) (recordsFrom file 0 (netCount file)) (v .0) in
-    let f = file-sound file (both .0) in
+    let f = file-accepted file (both .0) in
     let n : netCount file ≡ nets = v .1 in
-    let sound : (net : ℕ) → net < nets → verdict (recordChecks file net) ≡ Accepted =
+    let judged : (net : ℕ) → net < nets → verdict (recordChecks file net) ≡ Accepted =
     λ net h. each-record file (netCount file) 0 (both .1) net (omega arith) (omega arith) in
     let i : inputsBelow file nets ≡ inputs = ap (inputsBelow file) (sym n) ∙ v .2 in
-    let are = inputs-are file nets sound in
+    let are = inputs-are file nets judged in
     let most = count-at-most nets (isInput file) in
-    let few = at-most-64 file nets sound in
-    let some = at-least-1 file nets sound (omega arith) (f .3) in
+    let few = at-most-64 file nets judged in
+    let some = at-least-1 file nets judged (omega arith) (f .3) in
     record {
       whole = omega arith;
+      net-count = n;
+      input-count = v .2;
       few-nets = omega arith;
       one-input = omega arith;
       few-inputs = omega arith;
       inputs-first = omega arith;
-      input = λ net h. input-record file net (fields-sound file net (sound net (omega arith))) (are net (omega arith) .0 (omega arith)) .0;
-      gate = λ net low high. gate-record file net (fields-sound file net (sound net high)) (are net high .1 (omega arith));
-      arrives = λ net h. arrival-sound file net (sound net h);
+      input = λ net h. input-record file net (fields-accepted file net (judged net (omega arith))) (are net (omega arith) .0 (omega arith)) .0;
+      gate = λ net low high. gate-record file net (fields-accepted file net (judged net high)) (are net high .1 (omega arith));
+      arrives = λ net h. arrival-in-time file net (judged net h);
     }
 
 -- What callers ask of an accepted file.

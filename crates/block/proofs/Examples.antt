@@ -1,33 +1,45 @@
--- What the definitions say of blocks S and F and of gates of three pins, by computation.
+-- What the definitions say of the example blocks and of gates of three pins, by computation.
 -- Assumes nothing.
 use mathlib.Core.Path.{refl}
 use mathlib.Core.Bool.{xor}
-use Rattle.laws.specs.Below.{allBelow, anyBelow, maxBelow, countBelow, productBelow}
-use Rattle.laws.specs.Turn.{inTurn}
-use Rattle.excitation.specs.UncertaintySet.{code, decode, member, joinSets, each, size}
+use Rattle.laws.specs.Below.{allBelow, anyBelow, maxBelow, countBelow}
+use Rattle.laws.specs.Turn.{inTurn, listBelow}
+use Rattle.excitation.specs.UncertaintySet.{member, code, decode, joinSets, each, size}
 use Rattle.block.specs.Record.{isInput}
 use Rattle.block.specs.Kind.{kindOf}
-use Rattle.block.specs.Gate.{joinPins, gateValue}
-use Rattle.block.specs.Block.{latestPin, arrivalFrom, arrivals, inputsBelow, patternCount, fedFrom, coneSize, quietTick}
+use Rattle.block.specs.Block.{latestPin, arrivalFrom, arrivals, inputsBelow, frame, choiceCount, fedFrom, coneSize, quietTick}
 use Rattle.block.specs.Verdict.{verdict}
 use Rattle.block.specs.Refusals.{within, zeroBytes, fileChecks, kindKnown, inputInPlace, pinCountRight, inputSpareZero, unusedPinsZero, gateSpareZero, pinsBelow, gateInRange, inputInRange, arrivalInTime, inputChecks, gateChecks, fieldChecks, recordChecks, recordsFrom, readChecks, readOf}
+use Rattle.block.specs.Gate.{gateValue}
 use Rattle.block.specs.Examples.{BlockExamples}
 
 pub block-examples : BlockExamples
-unfolding joinPins gateValue xor code member joinSets each allBelow anyBelow maxBelow countBelow productBelow inTurn decode size isInput kindOf latestPin arrivalFrom arrivals inputsBelow patternCount fedFrom coneSize quietTick verdict within zeroBytes fileChecks kindKnown inputInPlace pinCountRight inputSpareZero unusedPinsZero gateSpareZero pinsBelow gateInRange inputInRange arrivalInTime inputChecks gateChecks fieldChecks recordChecks recordsFrom readChecks readOf
+unfolding allBelow anyBelow maxBelow countBelow inTurn listBelow xor member code decode joinSets each size isInput kindOf
+    latestPin arrivalFrom arrivals inputsBelow frame choiceCount fedFrom coneSize quietTick verdict within zeroBytes
+    fileChecks kindKnown inputInPlace pinCountRight inputSpareZero unusedPinsZero gateSpareZero pinsBelow gateInRange
+    inputInRange arrivalInTime inputChecks gateChecks fieldChecks recordChecks recordsFrom readChecks readOf gateValue
 block-examples = record {
+  read-S = refl;
+  read-F = refl;
+  read-R = refl;
+  read-empty = refl;
+  read-19 = refl;
+  read-faults = refl;
+  fields-F = (refl, refl, refl);
+  fields-R = (refl, refl, refl);
+  arrivals-F = refl;
+  arrivals-R = refl;
+  frame-R = refl;
+  patterns-F = refl;
+  patterns-R = refl;
+  cone-S = refl;
+  cones-F = (refl, refl);
+  cones-R = (refl, refl);
+  quiet-S = refl;
+  quiet-F = refl;
+  quiet-R = refl;
   nand-of-three = refl;
   nor-of-three = refl;
   xnor-of-three = refl;
   nand-sets-of-three = refl;
-  read-S = refl;
-  read-F = refl;
-  read-empty = refl;
-  read-19 = refl;
-  cone-S = refl;
-  cone-F = refl;
-  arrivals-F = refl;
-  patterns-F = refl;
-  quiet-S = refl;
-  quiet-F = refl;
 }

@@ -2,6 +2,7 @@
 -- Assumes nothing.
 use Prim.Native.Nat.{ℕ, _≤_, _<_}
 use mathlib.Core.Path.{_≡_, refl, sym, _∙_}
+use mathlib.Core.List.{List·Memᴰ·head, List·Memᴰ·tail}
 use mathlib.Core.Bool.{true, false}
 use native.Mathlib.Omega.{arith}
 use lib.Dec.{leb, ltb}
@@ -10,19 +11,19 @@ use Rattle.laws.specs.Below.{allBelow}
 use Rattle.laws.proofs.Tests.{and-left, and-right, and-both, and-first-fails, and-second-fails}
 use Rattle.laws.proofs.Below.{all-at, all-of-count, not-all-of-count}
 use Rattle.block.specs.declared.Verdict.the-variants.{Accepted}
-use Rattle.block.specs.Record.{File, kind, contact, delay, pinCount, pin, rise, fall, isInput}
+use Rattle.block.specs.Record.{File, kind, allowed, contact, delay, pinCount, pin, rise, fall, isInput}
 use Rattle.block.specs.Kind.{Kind, NONE, INPUT, AND, NAND, OR, NOR, XOR, XNOR, NOT, BUF, kindOf, ruleOf}
 use Rattle.block.specs.Block.{inputsBelow}
 use Rattle.block.specs.Verdict.{verdict}
 use Rattle.block.specs.Refusals.{within, kindKnown, inputInPlace, pinCountRight, pinsBelow, gateInRange, inputInRange, inputChecks, gateChecks, fieldChecks}
 use Rattle.block.specs.Accepted.{InputRecord, GateRecord}
-use Rattle.block.proofs.Verdicts.{passed}
+use Rattle.block.proofs.Verdicts.{listed}
 
-pub within-low : (low high x : ℕ) → within low high x ≡ true → low ≤ x
+within-low : (low high x : ℕ) → within low high x ≡ true → low ≤ x
 unfolding within
 within-low low high x t = leb-true low x (and-left (leb low x) (leb x high) t)
 
-pub within-high : (low high x : ℕ) → within low high x ≡ true → x ≤ high
+within-high : (low high x : ℕ) → within low high x ≡ true → x ≤ high
 unfolding within
 within-high low high x t = leb-true x high (and-right (leb low x) (leb x high) t)
 
@@ -53,16 +54,16 @@ rule-bounds XNOR = omega arith
 rule-bounds NOT = omega arith
 rule-bounds BUF = omega arith
 
-pub one-pin : (file : File) (net : ℕ) → pinCountRight file net ≡ true → 1 ≤ pinCount file net
+pins-low : (file : File) (net : ℕ) → pinCountRight file net ≡ true → 1 ≤ pinCount file net
 unfolding pinCountRight
-one-pin file net t =
+pins-low file net t =
     let bounds = rule-bounds (kindOf (kind file net)) in
     let low = within-low _ _ _ t in
     omega arith
 
-pub four-pins : (file : File) (net : ℕ) → pinCountRight file net ≡ true → pinCount file net ≤ 4
+pub pins-high : (file : File) (net : ℕ) → pinCountRight file net ≡ true → pinCount file net ≤ 4
 unfolding pinCountRight
-four-pins file net t =
+pins-high file net t =
     let bounds = rule-bounds (kindOf (kind file net)) in
     let high = within-high _ _ _ t in
     omega arith
@@ -80,7 +81,8 @@ gate-kind : (file : File) (net : ℕ) → isInput file net ≡ false → kind fi
 unfolding isInput
 gate-kind file net e = eqb-false _ _ e
 
--- Checks 4 to 9 passed on a gate, and on an input.
+-- Checks 4 to 9 passed on a gate, and on an input. Each check is found in its list by search, so that the order does not matter here.
+ruleset listing = (List·Memᴰ·head, List·Memᴰ·tail, refl)
 
 gate-ranges : (file : File) (net : ℕ) → gateInRange file net ≡ true
     → (within 0 15 (contact file net) ≡ true)
@@ -96,33 +98,34 @@ gate-ranges file net t =
 pub gate-record : (file : File) (net : ℕ) → verdict (fieldChecks file net) ≡ Accepted → isInput file net ≡ false → GateRecord file net
 unfolding fieldChecks kindKnown gateChecks pinsBelow
 gate-record file net e g =
-    let p4 = passed _ _ _ _ e in
-    let p6 = passed _ _ _ _ (rw g at (p4 .1)) in
-    let p7 = passed _ _ _ _ (p6 .1) in
-    let p8 = passed _ _ _ _ (p7 .1) in
-    let p9 = gate-ranges file net (passed _ _ _ _ (p8 .1) .0) in
-    let low = within-low _ _ _ (p4 .0) in
+    let here = rw g at e in
+    let known : within 1 9 (kind file net) ≡ true = listed _ here 4 net _ (search listing) in
+    let counted : pinCountRight file net ≡ true = listed _ here 6 net _ (search listing) in
+    let below = listed _ here 8 net (pinsBelow file net) (search listing) in
+    let ranges = gate-ranges file net (listed _ here 9 net _ (search listing)) in
+    let low = within-low _ _ _ known in
     let not-one = gate-kind file net g in
     record {
       gate = g;
       kind-low = omega arith;
-      kind-high = within-high _ _ _ (p4 .0);
-      one-pin = one-pin file net (p6 .0);
-      four-pins = four-pins file net (p6 .0);
-      pin-below = λ p h. ltb-true _ _ (all-at _ (λ q. ltb (pin file net q) net) p (p8 .0) h);
-      contact-high = within-high _ _ _ (p9 .0);
-      delay-low = within-low _ _ _ (p9 .1);
-      delay-high = within-high _ _ _ (p9 .1);
-      rise-low = within-low _ _ _ (p9 .2);
-      rise-high = within-high _ _ _ (p9 .2);
-      fall-low = within-low _ _ _ (p9 .3);
-      fall-high = within-high _ _ _ (p9 .3);
+      kind-high = within-high _ _ _ known;
+      pins-low = pins-low file net counted;
+      pins-high = pins-high file net counted;
+      pin-below = λ p h. ltb-true _ _ (all-at _ (λ q. ltb (pin file net q) net) p below h);
+      contact-high = within-high _ _ _ (ranges .0);
+      delay-low = within-low _ _ _ (ranges .1);
+      delay-high = within-high _ _ _ (ranges .1);
+      rise-low = within-low _ _ _ (ranges .2);
+      rise-high = within-high _ _ _ (ranges .2);
+      fall-low = within-low _ _ _ (ranges .3);
+      fall-high = within-high _ _ _ (ranges .3);
     }
 
 pub input-record : (file : File) (net : ℕ) → verdict (fieldChecks file net) ≡ Accepted → isInput file net ≡ true
     → InputRecord file net × (inputInPlace file net ≡ true)
 unfolding fieldChecks inputChecks inputInRange
 input-record file net e g =
-    let p5 = passed _ _ _ _ (rw g at (passed _ _ _ _ e .1)) in
-    let p9 = passed _ _ _ _ (passed _ _ _ _ (p5 .1) .1) in
-    (record { input = g; allowed-low = within-low _ _ _ (p9 .0); allowed-high = within-high _ _ _ (p9 .0) }, p5 .0)
+    let here = rw g at e in
+    let range : within 1 15 (allowed file net) ≡ true = listed _ here 9 net _ (search listing) in
+    let place : inputInPlace file net ≡ true = listed _ here 5 net _ (search listing) in
+    (record { input = g; allowed-low = within-low _ _ _ range; allowed-high = within-high _ _ _ range }, place)

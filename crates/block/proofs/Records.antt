@@ -39,14 +39,14 @@ module _ (file : File) (net : ℕ) where
   unfolding recordChecks
   fields-refused r e = refused-first (fieldChecks file net) _ r e
 
-  module _ (sound : verdict (fieldChecks file net) ≡ Accepted) where
+  module _ (passed : verdict (fieldChecks file net) ≡ Accepted) where
     pub arrives-late : 255 < arrival file net → verdict (recordChecks file net) ≡ Refused (refusal 10 net)
     unfolding recordChecks arrivalInTime
-    arrives-late h = accepted-first (fieldChecks file net) _ sound ∙ sym (fails 10 net [] (lt-leb _ _ h) refl)
+    arrives-late h = accepted-first (fieldChecks file net) _ passed ∙ sym (fails 10 net [] (lt-leb _ _ h) refl)
 
     pub record-passes : arrival file net ≤ 255 → verdict (recordChecks file net) ≡ Accepted
     unfolding recordChecks arrivalInTime
-    record-passes h = accepted-first (fieldChecks file net) _ sound ∙ sym (passes 10 net [] (le-leb _ _ h) all-passed)
+    record-passes h = accepted-first (fieldChecks file net) _ passed ∙ sym (passes 10 net [] (le-leb _ _ h) all-passed)
 
 -- The verdict on the records from a net on, by that on its own.
 module _ (file : File) (net nets : ℕ) where

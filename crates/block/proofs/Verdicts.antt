@@ -4,7 +4,8 @@
 use Prim.Native.Nat.{ℕ}
 use mathlib.Core.Path.{_≡_, refl, sym}
 use mathlib.Core.Bool.{Bool, true, false}
-use mathlib.Core.List.{List, [], _∷_, _++_}
+use mathlib.Core.List.{List, [], _∷_, _++_, List·Memᴰ, List·Memᴰ·not-nil, List·Memᴰ·cases-cons}
+use mathlib.Core.Logic.{⊎-elim}
 use native.Mathlib.Omega.{arith}
 use Rattle.block.specs.declared.Refusal.{Refusal}
 use Rattle.block.specs.declared.Verdict.{Verdict}
@@ -58,3 +59,10 @@ unfolding verdict
 both-accepted [] t e = (refl, e)
 both-accepted (check number place true ∷ s) t e = both-accepted s t e
 both-accepted (check number place false ∷ s) t e = apart _ e
+
+-- Every check of an accepted list passes, wherever it stands.
+pub listed : (s : List Check) → verdict s ≡ Accepted → (number place : ℕ) (b : Bool) → List·Memᴰ (check number place b) s → b ≡ true
+unfolding verdict
+listed [] e number place b m = absurd (List·Memᴰ·not-nil m)
+listed (check n p true ∷ s) e number place b m = ⊎-elim (λ (q : check number place b ≡ check n p true). cc) (λ r. listed s e number place b r) (List·Memᴰ·cases-cons m)
+listed (check n p false ∷ s) e number place b m = apart _ e

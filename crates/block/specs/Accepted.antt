@@ -3,8 +3,8 @@ use Prim.Native.Nat.{ℕ, _*_, _≤_, _<_}
 use mathlib.Core.Path.{_≡_}
 use mathlib.Core.Bool.{true, false}
 use lib.ListN.{length}
-use Rattle.block.specs.Record.{File, kind, contact, delay, pinCount, pin, rise, fall, allowed, isInput}
-use Rattle.block.specs.Block.{arrival}
+use Rattle.block.specs.Record.{File, netCount, kind, contact, delay, pinCount, pin, rise, fall, allowed, isInput}
+use Rattle.block.specs.Block.{arrival, inputCount}
 
 -- The record of an input whose fields passed. Its set is not empty.
 pub record InputRecord (file : File) (net : ℕ) : Type 0 where
@@ -17,8 +17,8 @@ pub record GateRecord (file : File) (net : ℕ) : Type 0 where
   pub gate : isInput file net ≡ false
   pub kind-low : 2 ≤ kind file net
   pub kind-high : kind file net ≤ 9
-  pub one-pin : 1 ≤ pinCount file net
-  pub four-pins : pinCount file net ≤ 4
+  pub pins-low : 1 ≤ pinCount file net
+  pub pins-high : pinCount file net ≤ 4
   pub pin-below : (p : ℕ) → p < pinCount file net → pin file net p < net
   pub contact-high : contact file net ≤ 15
   pub delay-low : 1 ≤ delay file net
@@ -31,6 +31,8 @@ pub record GateRecord (file : File) (net : ℕ) : Type 0 where
 -- An accepted file of so many nets and inputs: the inputs come first, then the gates.
 pub record AcceptedFile (file : File) (nets inputs : ℕ) : Type 0 where
   pub whole : length file ≡ 20 * nets
+  pub net-count : netCount file ≡ nets
+  pub input-count : inputCount file ≡ inputs
   pub few-nets : nets ≤ 1024
   pub one-input : 1 ≤ inputs
   pub few-inputs : inputs ≤ 64

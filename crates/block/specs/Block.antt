@@ -1,12 +1,13 @@
 -- What is made of a block's records: arrivals, the frame, the fan-out cone of an input and the quiet tick.
-use Prim.Native.Nat.{ℕ, _+_, _-_}
+use Prim.Native.Nat.{ℕ, _+_, _-_, _*_}
 use mathlib.Core.Bool.{Bool, false, cond, _||_}
-use mathlib.Core.List.{List}
+use mathlib.Core.List.{List, [], _∷_, Forall₂}
 use lib.Dec.{eqb}
 use lib.ListN.{getD}
-use Rattle.laws.specs.Below.{anyBelow, maxBelow, countBelow, productBelow}
+use Rattle.laws.specs.Below.{anyBelow, maxBelow, countBelow}
 use Rattle.laws.specs.Turn.{inTurn, listBelow}
-use Rattle.excitation.specs.UncertaintySet.{UncertaintySet, decode, size}
+use Rattle.excitation.specs.declared.Excitation.{Excitation}
+use Rattle.excitation.specs.UncertaintySet.{UncertaintySet, _∈_, decode, size}
 use Rattle.block.specs.Record.{File, netCount, isInput, delay, pinCount, pin, rise, fall, allowed}
 
 -- The greatest arrival of a gate's pins, from the arrivals of the nets below it.
@@ -32,19 +33,27 @@ inputsBelow file n = countBelow n (isInput file)
 abbrev pub inputCount : File → ℕ
 inputCount file = inputsBelow file (netCount file)
 
--- Document 01's frame, every choice of one allowed excitation per input: the set of each input.
+-- Document 01's frame, every choice of one allowed excitation per input: given by the set of each input. A pattern is a choice of it
+-- where each input has a member of its set.
 unfoldable pub frame : File → List UncertaintySet
 frame file = listBelow (inputCount file) (λ net. decode (allowed file net))
 
--- N, the number of patterns in the frame: the product, over the inputs, of how many excitations byte 18 allows.
-unfoldable pub patternCount : File → ℕ
-patternCount file = productBelow (inputCount file) (λ net. size (decode (allowed file net)))
+abbrev pub Choice : List Excitation → List UncertaintySet → Type 0
+Choice pattern sets = Forall₂ _∈_ pattern sets
+
+-- How many choices these sets leave: the product of the sets' sizes. Document 01's N is that of the frame.
+unfoldable pub choiceCount : List UncertaintySet → ℕ
+choiceCount [] = 1
+choiceCount (s ∷ rest) = size s * choiceCount rest
+
+abbrev pub patternCount : File → ℕ
+patternCount file = choiceCount (frame file)
 
 -- Whether a net feeds a gate, directly or through others, given which nets below the gate it feeds.
 unfoldable pub fedFrom : File → ℕ → List Bool → ℕ → Bool
 fedFrom file source below gate = anyBelow (pinCount file gate) (λ p. eqb (pin file gate p) source || getD below (pin file gate p) false)
 
--- How many gates stand in the fan-out cone of a net: gates it feeds, directly or through others, each counted once.
+-- How many gates stand in document 01's fan-out cone of a net: gates it feeds, directly or through others, each counted once.
 unfoldable pub coneSize : File → ℕ → ℕ
 coneSize file source =
     let fed = inTurn (fedFrom file source) (netCount file) in

@@ -15,6 +15,7 @@ pub data Kind : Type 0 where
 abbrev pub kinds : List Kind
 kinds = NONE ∷ INPUT ∷ AND ∷ NAND ∷ OR ∷ NOR ∷ XOR ∷ XNOR ∷ NOT ∷ BUF ∷ []
 
+-- The kind that byte 0 names.
 unfoldable pub kindOf : ℕ → Kind
 kindOf byte = getD kinds byte NONE
 

@@ -1,9 +1,10 @@
 pub mod Record
 pub mod Kind
-pub mod Gate
 pub mod Block
 pub mod Verdict
 pub mod Refusals
-pub mod Accepted
-pub mod Examples
 pub mod Read
+pub mod Accepted
+pub mod Numbers
+pub mod Gate
+pub mod Examples

@@ -57,7 +57,7 @@ peakHl file net = wordAt file net 16
 abbrev pub allowed : File → ℕ → ℕ
 allowed file net = byteAt file net 18
 
--- Kind 1 is an input; every other record is a gate.
+-- Kind 1 is an input; every other known kind is a gate.
 unfoldable pub isInput : File → ℕ → Bool
 isInput file net = eqb (kind file net) 1
 

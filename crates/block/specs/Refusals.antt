@@ -107,10 +107,11 @@ recordsFrom file net (suc n) = recordChecks file net ++ recordsFrom file (suc ne
 unfoldable pub readChecks : File → List Check
 readChecks file = fileChecks file ++ recordsFrom file 0 (netCount file)
 
--- Read takes the file and returns its counts of nets and inputs.
+-- What a verdict on the file comes to: the counts of nets and inputs, or the refusal.
 abbrev pub answerTo : File → Verdict → ReadAnswer
 answerTo file verdict-is.Accepted = answer.Counts (netCount file) (inputCount file)
 answerTo file (verdict-is.Refused r) = answer.Refused r
 
+-- Document 01's Read: takes the file and returns its counts of nets and inputs.
 unfoldable pub readOf : File → ReadAnswer
 readOf file = answerTo file (verdict (readChecks file))

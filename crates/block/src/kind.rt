@@ -11,6 +11,7 @@ pub struct Rule {
     pub inverts: bool,
 }
 
+// The rule of a kind byte. What is no gate takes no pin count.
 pub fn gate_rule(kind: usize) -> Rule
     ensures { λ r. ⌜ r ≡ ruleOf (kindOf kind) ⌝ }
 {

@@ -29,16 +29,6 @@ impl Net {
 // The number of a search case: the position of its record in the case store. It is never read as a net's number.
 pub struct Case(pub usize);
 
-impl Case {
-    // Where the record starts in the case store. A budget of 10,000 splits makes at most 30,001 cases.
-    pub fn start(self) -> usize
-        requires { ⌜ self .0 < 30001 ⌝ }
-        ensures { λ r. ⌜ r ≡ 72 * self .0 ⌝ }
-    {
-        72 * self.0
-    }
-}
-
 // Document 01's refusal.
 pub struct Refusal {
     pub number: u64,
@@ -55,6 +45,13 @@ pub enum Verdict {
 pub enum ReadAnswer {
     Counts { nets: u64, inputs: u64 },
     Refused(Refusal),
+}
+
+// A byte as a number.
+fn wide(x: u8) -> usize
+    ensures { λ r. ⌜ (r ≡ x) × (r < 256) ⌝ }
+{
+    x as usize
 }
 
 // The refusal of a whole file, at place 0.

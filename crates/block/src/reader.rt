@@ -15,6 +15,7 @@ use super::ReadAnswer;
 use super::Verdict;
 use super::checks;
 use super::record;
+use super::wide;
 
 fn greater(a: usize, b: usize) -> usize
     ensures { λ r. ⌜ r ≡ max a b ⌝ }
@@ -33,7 +34,7 @@ fn latest_pin(file: &[u8], net: Net, earlier: &[u8; 1024]) -> usize
     while p < pins {
         let source = record::pin(file, net, p);
         let at = source.0;
-        latest = greater(latest, record::wide(earlier[at]));
+        latest = greater(latest, wide(earlier[at]));
         p += 1;
     }
     latest

@@ -3,12 +3,7 @@ ghost use mathlib.Core.Path.{_≡_};
 ghost use Prim.Native.Nat.{_<_};
 ghost use Rattle.block.specs.Record.{HasRecord, byteAt, wordAt, kind, contact, delay, pinCount, pin, rise, fall, allowed};
 use super::Net;
-
-pub fn wide(x: u8) -> usize
-    ensures { λ r. ⌜ (r ≡ x) × (r < 256) ⌝ }
-{
-    x as usize
-}
+use super::wide;
 
 // Byte k of the record of a net.
 pub fn byte(file: &[u8], net: Net, k: usize) -> usize

@@ -2,12 +2,12 @@
 -- Assumes nothing.
 use mathlib.Core.Path.{refl, ap}
 use mathlib.Core.Bool.{xor}
-use Rattle.excitation.specs.UncertaintySet.{code, decode, member, joinSets}
+use Rattle.excitation.specs.UncertaintySet.{code, decode, member, joinSets, size}
 use Rattle.excitation.specs.Examples.{SetExamples, classOf}
 use Rattle.excitation.proofs.Sets.{join-empty-first, join-empty-second}
 
 pub set-examples : SetExamples
-unfolding code decode member joinSets xor classOf
+unfolding code decode member joinSets size xor classOf
 set-examples = record {
   figure5-and = refl;
   figure5-or = refl;
@@ -21,4 +21,5 @@ set-examples = record {
   class-lh = refl;
   class-hl = refl;
   class-h = refl;
+  sizes = refl;
 }

@@ -9,11 +9,11 @@ use Rattle.excitation.specs.Excitation.{TwoLevel, excitation, l, h, hl, 
 use Rattle.excitation.specs.UncertaintySet.{UncertaintySet, member, _∈_, _⊆_, empty, setWhere, some, joinOfOne, joinOfBoth, joinSets, madeOf, each}
 use Rattle.excitation.proofs.Finite.{for-each}
 
-pub member-where : (p : Excitation → Bool) (e : Excitation) → member e (setWhere p) ≡ p e
+member-where : (p : Excitation → Bool) (e : Excitation) → member e (setWhere p) ≡ p e
 unfolding member
 member-where p = for-each (λ e. member e (setWhere p) ≡ p e) refl refl refl refl
 
-pub some-from : (p : Excitation → Bool) (a : Excitation) → p a ≡ true → some p ≡ true
+some-from : (p : Excitation → Bool) (a : Excitation) → p a ≡ true → some p ≡ true
 some-from p =
     for-each (λ a. p a ≡ true → some p ≡ true)
     (λ t. or-first (p lh) (or-first (p hl) (or-first (p h) t)))
@@ -39,10 +39,10 @@ level-same true false t = absurd (false≢true t)
 level-same false true t = absurd (false≢true t)
 level-same false false t = refl
 
-pub same-self : (e : Excitation) → same e e ≡ true
+same-self : (e : Excitation) → same e e ≡ true
 same-self e = and-both (level-self (e .before)) (level-self (e .after))
 
-pub same-gives : (a b : Excitation) → same a b ≡ true → a ≡ b
+same-gives : (a b : Excitation) → same a b ≡ true → a ≡ b
 same-gives a b t =
     let p = level-same (a .before) (b .before) (and-left _ (Bool·beq (a .after) (b .after)) t) in
     let q = level-same (a .after) (b .after) (and-right (Bool·beq (a .before) (b .before)) _ t) in
@@ -71,23 +71,11 @@ join-monotone f s s′ t t′ x y e m =
     let j = join-members f s t e m in
     subst (λ e. e ∈ joinSets f s′ t′) (j .4) (join-contains f (j .0) (j .1) s′ t′ (x (j .0) (j .2)) (y (j .1) (j .3)))
 
--- A set of which each member became another excitation contains what any member became, and nothing else.
+-- A set of which each member became another excitation contains what any member became.
 pub each-contains : (g : Excitation → Excitation) (a : Excitation) (s : UncertaintySet) → a ∈ s → g a ∈ each g s
 unfolding each
 each-contains g a s x =
     member-where (madeOf g s) (g a) ∙ some-from (λ b. member b s && same (g b) (g a)) a (and-both x (same-self (g a)))
-
-pub each-members : (g : Excitation → Excitation) (s : UncertaintySet) (e : Excitation) → e ∈ each g s
-    → (a : Excitation) × (a ∈ s) × (g a ≡ e)
-unfolding each
-each-members g s e m =
-    let x = some-gives (λ a. member a s && same (g a) e) (sym (member-where (madeOf g s) e) ∙ m) in
-    (x .0, and-left (member (x .0) s) _ (x .1), same-gives _ _ (and-right (member (x .0) s) _ (x .1)))
-
-pub each-monotone : (g : Excitation → Excitation) (s s′ : UncertaintySet) → s ⊆ s′ → each g s ⊆ each g s′
-each-monotone g s s′ x e m =
-    let j = each-members g s e m in
-    subst (λ e. e ∈ each g s′) (j .2) (each-contains g (j .0) s′ (x (j .0) (j .1)))
 
 -- A set with no member, joined with any set on either side, gives a set with no member.
 pub join-empty-first : (f : TwoLevel) (t : UncertaintySet) → joinSets f empty t ≡ empty

@@ -15,6 +15,7 @@ startOf by.And = 0
 startOf by.Or = 256
 startOf by.Xor = 512
 
+-- The join whose 256 entries are the first, second or third of the table, counted from 0.
 abbrev pub joinAt : ℕ → Join
 joinAt third = getD (by.And ∷ by.Or ∷ by.Xor ∷ []) third by.And
 

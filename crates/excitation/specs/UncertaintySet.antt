@@ -14,6 +14,7 @@ pub record UncertaintySet : Type 0 where
   pub has-hl : Bool
   pub has-lh : Bool
 
+-- Whether an excitation is one of a set.
 unfoldable pub member : Excitation → UncertaintySet → Bool
 member e s = cond (e .before) (cond (e .after) (s .has-h) (s .has-hl)) (cond (e .after) (s .has-lh) (s .has-l))
 
@@ -39,7 +40,7 @@ setWhere p = record { has-l = p l; has-h = p h; has-hl = p hl; has-lh = p lh }
 abbrev pub some : (Excitation → Bool) → Bool
 some p = p l || p h || p hl || p lh
 
--- A set as byte 18 codes it, a number 0 to 15: a sum of 1 (l), 2 (h), 4 (hl), 8 (lh).
+-- Document 01's number of a set, 0 to 15, as byte 18 has it: a sum of 1 (l), 2 (h), 4 (hl), 8 (lh).
 unfoldable pub code : UncertaintySet → ℕ
 code s = digit (s .has-l) + 2 * digit (s .has-h) + 4 * digit (s .has-hl) + 8 * digit (s .has-lh)
 

@@ -7,8 +7,9 @@ use mathlib.Core.Logic.{⊎-elim}
 use native.Mathlib.Nat.{not-suc-le-zero, eq-or-lt-of-le, le-of-suc-le-suc}
 use native.Mathlib.Numerals.{add-one}
 use native.Mathlib.Omega.{arith}
+use borrow.Table.Steps.{cases}
 use Rattle.laws.specs.Below.{allBelow, maxBelow, digit, countBelow}
-use Rattle.laws.proofs.Tests.{and-left, and-right, and-both, and-second-fails, by-test}
+use Rattle.laws.proofs.Tests.{and-left, and-right, and-both, and-second-fails}
 
 -- One number more, as a loop counts.
 
@@ -47,7 +48,7 @@ unfolding countBelow
 count-at-most zero p = omega arith
 count-at-most (suc n) p =
     let h = count-at-most n p in
-    by-test (p n) (λ e. rw e (omega arith)) (λ e. rw e (omega arith))
+    cases (p n) (λ e. rw e (omega arith)) (λ e. rw e (omega arith))
 
 pub count-of-all : (n : ℕ) (p : ℕ → Bool) → allBelow n p ≡ true → countBelow n p ≡ n
 unfolding countBelow allBelow
@@ -60,12 +61,12 @@ unfolding countBelow allBelow
 all-of-count zero p e = refl
 all-of-count (suc n) p e =
     let h = count-at-most n p in
-    by-test (p n)
+    cases (p n)
     (λ t. let q : countBelow n p + 1 ≡ suc n = rw t at e in and-both (all-of-count n p (omega arith)) t)
     (λ t. let q : countBelow n p + 0 ≡ suc n = rw t at e in absurd (omega arith))
 
 pub not-all-of-count : (n : ℕ) (p : ℕ → Bool) → (countBelow n p ≡ n → ⊥) → allBelow n p ≡ false
-not-all-of-count n p h = by-test (allBelow n p) (λ t. absurd (h (count-of-all n p t))) (λ t. t)
+not-all-of-count n p h = cases (allBelow n p) (λ t. absurd (h (count-of-all n p t))) (λ t. t)
 
 -- Where p passes only at numbers below which it always passes, it passes exactly at the first ones.
 pub count-first : (n : ℕ) (p : ℕ → Bool) → ((k : ℕ) → k < n → p k ≡ true → allBelow k p ≡ true)
@@ -73,7 +74,7 @@ pub count-first : (n : ℕ) (p : ℕ → Bool) → ((k : ℕ) → k < n → p k 
 unfolding countBelow
 count-first zero p f k h = absurd (not-suc-le-zero h)
 count-first (suc n) p f k h =
-    by-test (p n)
+    cases (p n)
     (λ t. let all = f n (omega arith) t in
     let count : countBelow n p + digit (p n) ≡ n + 1 = rw (t, count-of-all n p all) refl in
     (λ l. ⊎-elim (λ (q : k ≡ n). rw q t) (λ m. all-at n p k all m) (eq-or-lt-of-le (le-of-suc-le-suc h)), λ l. absurd (omega arith)))

@@ -1,7 +1,6 @@
 -- Laws of tests: conjunctions and disjunctions that pass or fail.
 -- Assumes nothing.
-use Prim.Native.Nat.{ℕ}
-use mathlib.Core.Path.{_≡_, refl, ap, sym, _∙_}
+use mathlib.Core.Path.{_≡_, refl, sym, _∙_}
 use mathlib.Core.Bool.{Bool, true, false, not, _&&_, _||_, and-eq-true-iff}
 use borrow.Author.Tests.{not-true, not-false}
 
@@ -32,21 +31,9 @@ pub or-cases : {P : Type 0} (a b : Bool) → (a || b) ≡ true → (a ≡ true �
 or-cases true b e f g = f refl
 or-cases false b e f g = g e
 
--- A test either passes or fails.
-pub by-test : {P : Type 0} (b : Bool) → (b ≡ true → P) → (b ≡ false → P) → P
-by-test true f g = f refl
-by-test false f g = g refl
-
 -- What code learns of a definition's test t from its own test s of the same thing, turned over.
 pub refuted : {s t : Bool} → s ≡ t → not s ≡ true → t ≡ false
 refuted {s} e h = sym e ∙ not-true s h
 
 pub confirmed : {s t : Bool} → s ≡ t → not s ≡ false → t ≡ true
 confirmed {s} e h = sym e ∙ not-false s h
-
--- The same where the code tests x, which is the definition's y.
-pub refuted-at : (p : ℕ → Bool) {x y : ℕ} {s : Bool} → s ≡ p x → x ≡ y → not s ≡ true → p y ≡ false
-refuted-at p e q h = sym (ap p q) ∙ refuted e h
-
-pub confirmed-at : (p : ℕ → Bool) {x y : ℕ} {s : Bool} → s ≡ p x → x ≡ y → not s ≡ false → p y ≡ true
-confirmed-at p e q h = sym (ap p q) ∙ confirmed e h

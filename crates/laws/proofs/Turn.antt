@@ -15,7 +15,7 @@ module _ {A : Type 0} (make : List A → ℕ → A) where
   unfolding inTurn
   turn-next n = rw add-one refl
 
-  pub turn-length : (n : ℕ) → length (inTurn make n) ≡ n
+  turn-length : (n : ℕ) → length (inTurn make n) ≡ n
   unfolding inTurn
   turn-length zero = refl
   turn-length (suc n) = length-append (inTurn make n) (make (inTurn make n) n ∷ []) ∙ rw (turn-length n) (add-one n)

@@ -1,5 +1,5 @@
--- Tests, counts, the greatest and products over the numbers below n. Each is defined by one number more.
-use Prim.Native.Nat.{ℕ, zero, suc, _+_, _*_, max}
+-- Tests, counts and the greatest over the numbers below n. Each is defined by one number more.
+use Prim.Native.Nat.{ℕ, zero, suc, _+_, max}
 use mathlib.Core.Bool.{Bool, true, false, _&&_, _||_}
 
 -- Whether p passes at every number below n.
@@ -26,8 +26,3 @@ digit false = 0
 unfoldable pub countBelow : ℕ → (ℕ → Bool) → ℕ
 countBelow zero p = 0
 countBelow (suc n) p = countBelow n p + digit (p n)
-
--- The product of the values of f below n.
-unfoldable pub productBelow : ℕ → (ℕ → ℕ) → ℕ
-productBelow zero f = 1
-productBelow (suc n) f = productBelow n f * f n

@@ -1,7 +1,7 @@
 // The functions that C and Rust call. Each answer goes into a lent array of six numbers.
 ghost use mathlib.Core.Path.{_≡_};
 ghost use Rattle.block.specs.Refusals.{readOf};
-ghost use Rattle.zimgurav.specs.Numbers.{readNumbers};
+ghost use Rattle.block.specs.Numbers.{readNumbers};
 use block::ReadAnswer;
 
 // Read's answer as six numbers.
@@ -14,6 +14,7 @@ fn read_numbers(answer: ReadAnswer) -> [u64; 6]
     }
 }
 
+// Read: the file's counts of nets and inputs, or its refusal.
 #[no_mangle]
 pub extern "C" fn zimgurav_read(file: &[u8], answer: &mut [u64; 6])
     ensures { λ _. ⌜ now (answer .exit) ≡ readNumbers (readOf (now (file .entry))) ⌝ }

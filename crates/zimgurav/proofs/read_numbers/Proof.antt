@@ -2,7 +2,7 @@
 -- Assumes nothing.
 use mathlib.Core.Path.{sym, ap}
 use borrow.Author.Needs.{needs}
-use Rattle.zimgurav.specs.Numbers.{readNumbers}
+use Rattle.block.specs.Numbers.{readNumbers}
 use Rattle.zimgurav.proofs.read_numbers.Tie as tie
 use Rattle.zimgurav.proofs.read_numbers.Statement.{statement}
 

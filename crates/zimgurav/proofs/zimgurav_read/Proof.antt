@@ -2,7 +2,7 @@
 -- Assumes nothing.
 use mathlib.Core.Path.{ap, _∙_}
 use borrow.Author.Needs.{needs}
-use Rattle.zimgurav.specs.Numbers.{readNumbers}
+use Rattle.block.specs.Numbers.{readNumbers}
 use Rattle.zimgurav.proofs.zimgurav_read.Tie as tie
 use Rattle.zimgurav.proofs.zimgurav_read.Statement.{statement}
 

@@ -1,9 +1,9 @@
 -- `block::checks::check_fields` meets its contract.
 -- Assumes nothing.
-use mathlib.Core.Path.{sym, _∙_}
+use mathlib.Core.Path.{sym, _∙_, ap}
 use borrow.Author.Tests.{eq-eqb, ne-eqb}
 use borrow.Author.Needs.{needs}
-use Rattle.laws.proofs.Tests.{refuted-at, confirmed-at}
+use Rattle.laws.proofs.Tests.{refuted, confirmed}
 use Rattle.block.specs.Record.{isInput}
 use Rattle.block.specs.Refusals.{within, kindKnown, fieldChecks}
 use Rattle.block.proofs.Verdicts.{passes, fails}
@@ -23,7 +23,7 @@ returns : tie.Need-returns
 unfolding fieldChecks kindKnown
 returns c =
     let at4 = c .before in
-    let fails4 = refuted-at (within 1 9) (at4 .before .in-range .ensures) (at4 .before .before .kind .ensures .0) (at4 .if1 .taken) in
+    let fails4 = refuted (at4 .before .in-range .ensures ∙ ap (within 1 9) (at4 .before .before .kind .ensures .0)) (at4 .if1 .taken) in
     fails _ _ _ fails4 (c .refused .ensures)
 
 check-input-requires : tie.Need-check-input-requires
@@ -33,7 +33,7 @@ returns-2 : tie.Need-returns-2
 unfolding fieldChecks kindKnown isInput
 returns-2 c =
     let kind = c .before .before .before .before .kind .ensures .0 in
-    let known = confirmed-at (within 1 9) (c .before .before .before .in-range .ensures) kind (c .before .before .if1 .left) in
+    let known = confirmed (c .before .before .before .in-range .ensures ∙ ap (within 1 9) kind) (c .before .before .if1 .left) in
     passes _ _ _ known (rw (eq-eqb _ _ (sym kind ∙ c .before .if2 .taken)) (c .check-input .ensures))
 
 check-gate-requires : tie.Need-check-gate-requires
@@ -43,7 +43,7 @@ returns-3 : tie.Need-returns-3
 unfolding fieldChecks kindKnown isInput
 returns-3 c =
     let kind = c .before .before .before .before .kind .ensures .0 in
-    let known = confirmed-at (within 1 9) (c .before .before .before .in-range .ensures) kind (c .before .before .if1 .left) in
+    let known = confirmed (c .before .before .before .in-range .ensures ∙ ap (within 1 9) kind) (c .before .before .if1 .left) in
     passes _ _ _ known (rw (ne-eqb _ _ (λ e. c .before .if2 .left (kind ∙ e))) (c .check-gate .ensures))
 
 pub check-fields-spec : {M : Type 1} → statement M

@@ -3,7 +3,7 @@
 use borrow.Author.Needs.{needs}
 use Rattle.laws.proofs.Tests.{refuted, confirmed}
 use Rattle.block.specs.Refusals.{gateChecks}
-use Rattle.block.proofs.Fields.{four-pins}
+use Rattle.block.proofs.Fields.{pins-high}
 use Rattle.block.proofs.Verdicts.{passes, fails, all-passed}
 use Rattle.block.proofs.checks.check_gate.Tie as tie
 use Rattle.block.proofs.checks.check_gate.Statement.{statement}
@@ -22,7 +22,7 @@ returns c =
     fails _ _ _ fails6 (c .refused .ensures)
 
 gate-spare-zero-requires : tie.Need-gate-spare-zero-requires
-gate-spare-zero-requires c κs = (search needs, four-pins _ _ (confirmed (c .before .pin-count-right .ensures) (c .if1 .left)))
+gate-spare-zero-requires c κs = (search needs, pins-high _ _ (confirmed (c .before .pin-count-right .ensures) (c .if1 .left)))
 
 refused-requires-2 : tie.Need-refused-requires-2
 refused-requires-2 c κs = search needs
@@ -37,7 +37,7 @@ returns-2 c =
     passes _ _ _ passes6 (fails _ _ _ fails7 (c .refused2 .ensures))
 
 pins-below-requires : tie.Need-pins-below-requires
-pins-below-requires c κs = (search needs, four-pins _ _ (confirmed (c .before .before .before .pin-count-right .ensures) (c .before .before .if1 .left)))
+pins-below-requires c κs = (search needs, pins-high _ _ (confirmed (c .before .before .before .pin-count-right .ensures) (c .before .before .if1 .left)))
 
 refused-requires-3 : tie.Need-refused-requires-3
 refused-requires-3 c κs = search needs

@@ -1,7 +1,8 @@
 -- `block::checks::check_input` meets its contract. Each return goes through the list of checks up to the one that decided it.
 -- Assumes nothing.
+use mathlib.Core.Path.{ap, _∙_}
 use borrow.Author.Needs.{needs}
-use Rattle.laws.proofs.Tests.{refuted, confirmed, refuted-at, confirmed-at}
+use Rattle.laws.proofs.Tests.{refuted, confirmed}
 use Rattle.block.specs.Refusals.{within, inputInRange, inputChecks}
 use Rattle.block.proofs.Fields.{after-gate, past-64, in-place}
 use Rattle.block.proofs.Verdicts.{passes, fails, all-passed}
@@ -50,7 +51,7 @@ returns-4 : tie.Need-returns-4
 unfolding inputChecks inputInRange
 returns-4 c =
     let at9 = c .before in
-    let fails9 = refuted-at (within 1 15) (at9 .before .in-range .ensures) (at9 .before .before .allowed .ensures .0) (at9 .if4 .taken) in
+    let fails9 = refuted (at9 .before .in-range .ensures ∙ ap (within 1 15) (at9 .before .before .allowed .ensures .0)) (at9 .if4 .taken) in
     let at7 = at9 .before .before .before in
     let passes7 = confirmed (at7 .before .input-spare-zero .ensures) (at7 .if3 .left) in
     let at5 = at7 .before .before in
@@ -61,7 +62,7 @@ returns-5 : tie.Need-returns-5
 unfolding inputChecks inputInRange
 returns-5 c =
     let at9 = c in
-    let passes9 = confirmed-at (within 1 15) (at9 .before .in-range .ensures) (at9 .before .before .allowed .ensures .0) (at9 .if4 .left) in
+    let passes9 = confirmed (at9 .before .in-range .ensures ∙ ap (within 1 15) (at9 .before .before .allowed .ensures .0)) (at9 .if4 .left) in
     let at7 = at9 .before .before .before in
     let passes7 = confirmed (at7 .before .input-spare-zero .ensures) (at7 .if3 .left) in
     let at5 = at7 .before .before in

@@ -1,7 +1,7 @@
 -- `block::checks::unused_pins_zero` meets its contract. The loop's invariant: the unused pins passed are 0.
 -- Assumes nothing.
 use Prim.Native.Nat.{_+_, _-_, _≤_}
-use mathlib.Core.Path.{_≡_, refl, sym, _∙_}
+use mathlib.Core.Path.{_≡_, refl, sym, ap, _∙_}
 use mathlib.Core.Bool.{true}
 use native.Mathlib.Omega.{arith}
 use lib.Dec.{eqb}
@@ -39,8 +39,11 @@ pin-requires c κs = search needs
 returns : tie.Need-returns Inv-loop μ-loop
 unfolding unusedPinsZero
 returns c =
+    let l = c .before .before .before .before .loop in
+    let args = c .before .before .before .before .before .before .before .args in
     let used = c .before .before .before .before .before .pin-count .ensures .0 in
-    let source = rw used at (c .before .before .pin .ensures) in
+    let source : c .before .before .pin .result .0 ≡ pin (args .file .now) (args .net .0) (pinCount (args .file .now) (args .net .0) + l .i) =
+    c .before .before .pin .ensures ∙ ap (λ u. pin (args .file .now) (args .net .0) (u + l .i)) used in
     sym (all-fails _ _ _ (rw used at (c .before .before .before .loop-test .taken)) (ne-eqb _ _ (λ e. c .if1 .taken (source ∙ e))))
 
 add-i : tie.Need-add-i Inv-loop μ-loop
@@ -51,9 +54,12 @@ loop-less c = search needs
 
 loop-again : tie.Need-loop-again Inv-loop μ-loop
 loop-again c =
+    let l = c .before .before .before .before .loop in
+    let args = c .before .before .before .before .before .before .before .args in
     let used = c .before .before .before .before .before .pin-count .ensures .0 in
-    let source = rw used at (c .before .before .pin .ensures) in
-    (omega arith, all-next _ _ (c .before .before .before .before .loop .inv .1) (eq-eqb _ _ (sym source ∙ c .if1 .left)))
+    let source : c .before .before .pin .result .0 ≡ pin (args .file .now) (args .net .0) (pinCount (args .file .now) (args .net .0) + l .i) =
+    c .before .before .pin .ensures ∙ ap (λ u. pin (args .file .now) (args .net .0) (u + l .i)) used in
+    (omega arith, all-next _ _ (l .inv .1) (eq-eqb _ _ (sym source ∙ c .if1 .left)))
 
 returns-2 : tie.Need-returns-2 Inv-loop μ-loop
 unfolding unusedPinsZero

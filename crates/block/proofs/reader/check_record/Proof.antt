@@ -34,11 +34,11 @@ refused-requires c κs = search needs
 returns-2 : tie.Need-returns-2
 returns-2 c =
     let start = c .before .before .before .before .before .before .before .before in
-    let sound = sym (c .before .before .before .before .before .before .check-fields .ensures) ∙ c .before .before .before .before .enum-told .given .1 in
+    let passed = sym (c .before .before .before .before .before .before .check-fields .ensures) ∙ c .before .before .before .before .enum-told .given .1 in
     let a : c .before .before .arrival .result ≡ arrival (start .args .file .now) (start .args .net .0) =
     c .before .before .arrival .ensures ∙ ap (λ e. arrivalFrom (start .args .file .now) e (start .args .net .0)) (start .pre .1 .arrived) in
     record {
-      judged = c .refused .ensures ∙ sym (arrives-late _ _ sound (rw a at (c .before .if1 .taken)));
+      judged = c .refused .ensures ∙ sym (arrives-late _ _ passed (rw a at (c .before .if1 .taken)));
       sized = start .pre .1 .sized;
       arrived = λ e. apart _ (sym (c .refused .ensures) ∙ e);
     }
@@ -52,12 +52,12 @@ element-write-arrivals c = search needs
 returns-3 : tie.Need-returns-3
 returns-3 c =
     let start = c .before .before .before .before .before .before .before in
-    let sound = sym (c .before .before .before .before .before .check-fields .ensures) ∙ c .before .before .before .enum-told .given .1 in
+    let passed = sym (c .before .before .before .before .before .check-fields .ensures) ∙ c .before .before .before .enum-told .given .1 in
     let a : c .before .arrival .result ≡ arrival (start .args .file .now) (start .args .net .0) =
     c .before .arrival .ensures ∙ ap (λ e. arrivalFrom (start .args .file .now) e (start .args .net .0)) (start .pre .1 .arrived) in
     let kept : c .before .arrival .result % 256 ≡ c .before .arrival .result = omega arith in
     record {
-      judged = sym (record-passes _ _ sound (rw a at (c .if1 .left)));
+      judged = sym (record-passes _ _ passed (rw a at (c .if1 .left)));
       sized = simp length-set (start .pre .1 .sized);
       arrived = λ e. arrived-next _ _ _ _ (omega arith) (start .pre .1 .arrived) (kept ∙ a);
     }

@@ -30,6 +30,8 @@ add-entry-2 c = search needs
 array-read-t15 : tie.Need-array-read-t15
 array-read-t15 c = search needs
 
+-- Here the constant table of the code is compared with `listBelow 768 joinEntry`, of which `join-at` speaks: the computed test over
+-- all 768 entries.
 returns : tie.Need-returns
 unfolding inTurn listBelow joinEntry xor code decode member joinSets
 returns c = rw (c .before .before .start-of .ensures .0) (join-at (c .before .before .before .args .by) _ _)
