@@ -1,8 +1,8 @@
 /* Zimgurav: proved ceilings on the supply current of a gate block.
  *
  * A slice is a pointer and a length. A length counts elements, not bytes; the pointer may be anything that is not
- * null where the length is 0. Every value of every argument is accepted or refused; none is undefined behaviour
- * as long as each pointer is good for its length and no two lent buffers overlap.
+ * null where the length is 0. Every value of every argument is accepted or refused; none is undefined behaviour, as
+ * long as each pointer is good for its length and aligned for its type, and no two lent buffers overlap.
  *
  * An answer is six numbers. answer[0] is 0 where the call was accepted. Else it is the refusal's number, answer[1]
  * is its place, the rest are 0, and no lent buffer but the answer was changed.

@@ -2,10 +2,7 @@
 //!
 //! The functions here are safe forms of the proved library's own, which are in [`raw`].
 
-pub mod kind;
 pub mod raw;
-pub mod sample;
-pub mod second;
 
 use std::error::Error;
 use std::fmt;

@@ -11,7 +11,7 @@ extern "C" {
     ///
     /// # Safety
     ///
-    /// `file` is not null and is good for reading `file_length` bytes, `answer` is good for
-    /// writing, and the two do not overlap.
+    /// `file` is not null and is good for reading `file_length` bytes, `answer` is aligned
+    /// and good for writing, and the two do not overlap.
     pub fn zimgurav_read(file: *const u8, file_length: usize, answer: *mut Answer);
 }

@@ -6,7 +6,8 @@
 //! whether its refusal applies; the functions stand in the order of document 01.
 
 use super::block::{Record, RECORD_BYTES};
-use crate::{kind, Counts, Refusal};
+use crate::kind;
+use zimgurav::{Counts, Refusal};
 
 /// The most records a block may have.
 const MOST_RECORDS: usize = 1024;

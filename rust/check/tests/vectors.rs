@@ -3,7 +3,8 @@
 use std::fs;
 use std::path::{Path, PathBuf};
 
-use zimgurav::{read, second, Counts, Refusal};
+use check::second;
+use zimgurav::{read, Counts, Refusal};
 
 /// The vector files, and how many calls of Read each of them holds.
 const FILES: [(&str, usize); 5] = [

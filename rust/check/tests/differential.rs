@@ -1,7 +1,8 @@
 //! The library against the second implementation on random and damaged files.
 
-use zimgurav::sample::{damage, Random, Shape};
-use zimgurav::{read, second, Counts, Refusal};
+use check::sample::{damage, Random, Shape};
+use check::second;
+use zimgurav::{read, Counts, Refusal};
 
 const FILES: usize = 240_000;
 

@@ -3,9 +3,10 @@
 use std::hint::black_box;
 use std::time::{Duration, Instant};
 
-use zimgurav::kind::{BUF, NOT};
-use zimgurav::sample::{gate, input, Random, Record, Shape};
-use zimgurav::{read, second, Counts, Refusal};
+use check::kind::{BUF, NOT};
+use check::sample::{gate, input, Random, Record, Shape};
+use check::second;
+use zimgurav::{read, Counts, Refusal};
 
 const ROUNDS: usize = 501;
 const READS: u32 = 20;

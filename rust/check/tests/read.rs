@@ -1,9 +1,10 @@
 //! Read at the edges of every check. The expected answers are written from document 01, and both
 //! the library and the second implementation must give them.
 
-use zimgurav::kind::{AND, BUF, INPUT, NAND, NOT, XNOR};
-use zimgurav::sample::{gate, input, Record};
-use zimgurav::{raw, read, second, Counts, Refusal};
+use check::kind::{AND, BUF, INPUT, NAND, NOT, XNOR};
+use check::sample::{gate, input, Record};
+use check::second;
+use zimgurav::{raw, read, Counts, Refusal};
 
 #[track_caller]
 fn answers(file: &[u8], expected: Result<Counts, Refusal>) {
@@ -544,7 +545,10 @@ mod examples {
             with_peak(gate(BUF, &[0])),
             with_peak(gate(NOT, &[0])),
         ];
-        assert_eq!(block.concat(), include_bytes!("../../examples/block_s.blk"));
+        assert_eq!(
+            block.concat(),
+            include_bytes!("../../../examples/block_s.blk")
+        );
         accepted(&block, 3, 1);
     }
 
@@ -561,7 +565,10 @@ mod examples {
         nand[14] = 30;
         nand[16] = 31;
         let block = [input(15), input(15), not, nand];
-        assert_eq!(block.concat(), include_bytes!("../../examples/block_f.blk"));
+        assert_eq!(
+            block.concat(),
+            include_bytes!("../../../examples/block_f.blk")
+        );
         accepted(&block, 4, 2);
     }
 }

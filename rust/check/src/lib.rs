@@ -1,0 +1,5 @@
+//! What the proved library is held to: a second implementation of document 01 and blocks to compare the two on.
+
+pub mod kind;
+pub mod sample;
+pub mod second;
