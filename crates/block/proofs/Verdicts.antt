@@ -64,5 +64,6 @@ both-accepted (check number place false ∷ s) t e = apart _ e
 pub listed : (s : List Check) → verdict s ≡ Accepted → (number place : ℕ) (b : Bool) → List·Memᴰ (check number place b) s → b ≡ true
 unfolding verdict
 listed [] e number place b m = absurd (List·Memᴰ·not-nil m)
-listed (check n p true ∷ s) e number place b m = ⊎-elim (λ (q : check number place b ≡ check n p true). cc) (λ r. listed s e number place b r) (List·Memᴰ·cases-cons m)
+listed (check n p true ∷ s) e number place b m =
+    ⊎-elim (λ (q : check number place b ≡ check n p true). cc) (λ r. listed s e number place b r) (List·Memᴰ·cases-cons m)
 listed (check n p false ∷ s) e number place b m = apart _ e

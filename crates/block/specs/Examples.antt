@@ -45,14 +45,15 @@ twoFaults =
     1 ∷ 0 ∷ 0 ∷ 0 ∷ 0 ∷ 0 ∷ 0 ∷ 0 ∷ 0 ∷ 0 ∷ 0 ∷ 0 ∷ 0 ∷ 0 ∷ 0 ∷ 0 ∷ 0 ∷ 0 ∷ 15 ∷ 0
     ∷ 9 ∷ 0 ∷ 0 ∷ 1 ∷ 1 ∷ 0 ∷ 0 ∷ 0 ∷ 0 ∷ 0 ∷ 0 ∷ 0 ∷ 1 ∷ 1 ∷ 0 ∷ 0 ∷ 0 ∷ 0 ∷ 0 ∷ 0 ∷ []
 
--- Document 01's starred examples are marked ★.
 pub record BlockExamples : Type 0 where
+  -- Read.
   pub read-S : readOf blockS ≡ answer.Counts 3 1
   pub read-F : readOf blockF ≡ answer.Counts 4 2
   pub read-R : readOf blockR ≡ answer.Counts 6 3
   pub read-empty : readOf [] ≡ answer.Refused (refusal 3 0)
   pub read-19 : readOf (replicate 19 0) ≡ answer.Refused (refusal 1 0)
   pub read-faults : readOf twoFaults ≡ answer.Refused (refusal 8 1)
+  -- Contacts and peaks, arrivals, the frame and N.
   pub fields-F : (contact blockF 3 ≡ 1) × (peakLh blockF 3 ≡ 30) × (peakHl blockF 3 ≡ 31)
   pub fields-R : (contact blockR 3 ≡ 2) × (peakLh blockR 3 ≡ 258) × (peakHl blockR 3 ≡ 515)
   pub arrivals-F : arrivals blockF 4 ≡ 0 ∷ 0 ∷ 1 ∷ 3 ∷ []
@@ -60,14 +61,16 @@ pub record BlockExamples : Type 0 where
   pub frame-R : map code (frame blockR) ≡ 1 ∷ 6 ∷ 13 ∷ []
   pub patterns-F : patternCount blockF ≡ 16
   pub patterns-R : patternCount blockR ≡ 6
-  -- ★
+  -- ★ Cone of net 0: 2.
   pub cone-S : coneSize blockS 0 ≡ 2
   pub cones-F : (coneSize blockF 0 ≡ 2) × (coneSize blockF 1 ≡ 1)
-  -- net 5 is fed by 0 on two ways
+  -- Net 0 feeds net 5 on two ways.
   pub cones-R : (coneSize blockR 0 ≡ 3) × (coneSize blockR 2 ≡ 0)
+  -- Quiet ticks.
   pub quiet-S : quietTick blockS ≡ 2
   pub quiet-F : quietTick blockF ≡ 5
   pub quiet-R : quietTick blockR ≡ 13
+  -- The final result is turned over, and no join on the way.
   pub nand-of-three : gateExcitation (ruleOf NAND) h (h ∷ h ∷ []) ≡ l
   pub nor-of-three : gateExcitation (ruleOf NOR) l (l ∷ l ∷ []) ≡ h
   pub xnor-of-three : gateExcitation (ruleOf XNOR) lh (h ∷ l ∷ []) ≡ lh

@@ -17,6 +17,7 @@ use super::checks;
 use super::record;
 use super::wide;
 
+// The greater of two numbers.
 fn greater(a: usize, b: usize) -> usize
     ensures { λ r. ⌜ r ≡ max a b ⌝ }
 {

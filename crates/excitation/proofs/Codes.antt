@@ -11,7 +11,7 @@ use Rattle.laws.specs.Below.{allBelow}
 use Rattle.laws.proofs.Tests.{and-left, and-right, or-cases}
 use Rattle.laws.proofs.Below.{all-at}
 use Rattle.excitation.specs.declared.Excitation.{Excitation}
-use Rattle.excitation.specs.UncertaintySet.{UncertaintySet, member, some, code, decode}
+use Rattle.excitation.specs.UncertaintySet.{UncertaintySet, member, _∈_, some, code, decode}
 use Rattle.excitation.proofs.Finite.{every-at, setOf}
 use Rattle.excitation.proofs.Sets.{level-same, some-gives}
 
@@ -59,7 +59,7 @@ unfolding sameSet code decode
 decode-code s = same-set (decode (code s)) s (every-at (λ s. sameSet (decode (code s)) s) refl s)
 
 -- A number 1 to 15 codes a set that has a member.
-pub some-member : (n : ℕ) → 1 ≤ n → n < 16 → (e : Excitation) × (member e (decode n) ≡ true)
+pub some-member : (n : ℕ) → 1 ≤ n → n < 16 → (e : Excitation) × (e ∈ decode n)
 unfolding allBelow decode member
 some-member n low high =
     or-cases (eqb n 0) (some (λ e. member e (decode n)))

@@ -29,6 +29,7 @@ module _ {A : Type 0} (make : List A → ℕ → A) where
       (λ l. List·getD-append (inTurn make n) _ d i (rw turn-length l) ∙ turn-at n i d l)
       (eq-or-lt-of-le (le-of-suc-le-suc h))
 
+-- The list of the values of f below n has each in its place.
 pub list-at : {A : Type 0} (n : ℕ) (f : ℕ → A) (k : ℕ) (d : A) → k < n → getD (listBelow n f) k d ≡ f k
 unfolding listBelow
 list-at n f k d h = turn-at (λ made k. f k) n k d h
