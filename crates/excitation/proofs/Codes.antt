@@ -1,17 +1,18 @@
 -- Laws of the codes of uncertainty sets.
 -- Assumes nothing.
 use Prim.Native.Nat.{ℕ, _+_, _*_, _/_, _%_, _≤_, _<_}
-use mathlib.Core.Path.{_≡_, refl, sym}
 use mathlib.Core.Bool.{Bool, true, _&&_, _||_, Bool·beq}
-use native.Mathlib.Omega.{arith}
+use mathlib.Core.Path.{_≡_, refl, sym}
 use native.Mathlib.Nat.{mul-add-mod-self-left}
+use native.Mathlib.Omega.{arith}
+use lib.Bits.{bitAnd}
 use lib.Dec.{eqb, ltb}
 use borrow.Author.Tests.{eqb-true, ltb-true}
 use Rattle.laws.specs.Below.{allBelow}
-use Rattle.laws.proofs.Tests.{and-left, and-right, or-cases}
 use Rattle.laws.proofs.Below.{all-at}
+use Rattle.laws.proofs.Tests.{and-left, and-right, or-cases}
+use Rattle.excitation.specs.UncertaintySet.{UncertaintySet, member, _∈_, some, code, decode, each, invertSet}
 use Rattle.excitation.specs.declared.Excitation.{Excitation}
-use Rattle.excitation.specs.UncertaintySet.{UncertaintySet, member, _∈_, some, code, decode}
 use Rattle.excitation.proofs.Finite.{every-at, setOf}
 use Rattle.excitation.proofs.Sets.{level-same, some-gives}
 
@@ -66,3 +67,14 @@ some-member n low high =
     (all-at 16 (λ n. eqb n 0 || some (λ e. member e (decode n))) n refl high)
     (λ z. let e : n ≡ 0 = eqb-true _ _ z in absurd (omega arith))
     (λ s. some-gives (λ e. member e (decode n)) s)
+
+-- A set turned over, by its bits: l and h change places, and so do hl and lh.
+
+pub invert-bits : (n : ℕ) → n < 16 → bitAnd n 5 * 2 + bitAnd n 10 / 2 ≡ code (invertSet (decode n))
+unfolding allBelow code decode each member
+invert-bits n h = eqb-true _ _ (all-at 16 (λ n. eqb (bitAnd n 5 * 2 + bitAnd n 10 / 2) (code (invertSet (decode n)))) n refl h)
+
+pub bits-small : (n : ℕ) → n < 16 → (bitAnd n 5 < 16) × (bitAnd n 10 < 16)
+unfolding allBelow
+bits-small n h =
+    (ltb-true _ _ (all-at 16 (λ n. ltb (bitAnd n 5) 16) n refl h), ltb-true _ _ (all-at 16 (λ n. ltb (bitAnd n 10) 16) n refl h))

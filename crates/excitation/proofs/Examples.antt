@@ -1,9 +1,9 @@
 -- The examples of excitations and sets, by computation.
 -- Assumes nothing.
-use mathlib.Core.Path.{refl, ap}
 use mathlib.Core.Bool.{xor}
-use Rattle.excitation.specs.UncertaintySet.{code, decode, member, joinSets, size}
+use mathlib.Core.Path.{refl, ap}
 use Rattle.excitation.specs.Examples.{SetExamples, classOf}
+use Rattle.excitation.specs.UncertaintySet.{code, decode, member, joinSets, size}
 use Rattle.excitation.proofs.Sets.{join-empty-first, join-empty-second}
 
 pub set-examples : SetExamples

@@ -1,11 +1,11 @@
 -- A fact of every excitation and of every uncertainty set, by one case for each excitation or one computed test over all sets.
 -- Assumes nothing.
-use mathlib.Core.Path.{_≡_}
 use mathlib.Core.Bool.{Bool, true, false, _&&_}
+use mathlib.Core.Path.{_≡_}
 use Rattle.laws.proofs.Tests.{and-left, and-right}
-use Rattle.excitation.specs.declared.Excitation.{Excitation}
 use Rattle.excitation.specs.Excitation.{excitation, l, h, hl, lh}
 use Rattle.excitation.specs.UncertaintySet.{UncertaintySet}
+use Rattle.excitation.specs.declared.Excitation.{Excitation}
 
 -- What holds of l, h, hl and lh holds of every excitation.
 pub for-each : (P : Excitation → Type 0) → P l → P h → P hl → P lh → (e : Excitation) → P e

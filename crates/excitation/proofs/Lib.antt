@@ -1,5 +1,7 @@
 pub mod Finite
 pub mod Sets
+pub mod Held
+pub mod OneMember
 pub mod Codes
 pub mod Lookup
 pub mod Examples

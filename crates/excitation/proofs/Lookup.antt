@@ -4,15 +4,15 @@
 use Prim.Native.Nat.{ℕ, _+_, _*_, _/_, _%_, _<_}
 use mathlib.Core.Path.{_≡_, refl, ap, _∙_}
 use native.Mathlib.Omega.{arith}
-use lib.ListN.{getD}
+use lib.ListN.{length, getD}
 use Rattle.laws.specs.Turn.{listBelow}
-use Rattle.laws.proofs.Turn.{list-at}
-use Rattle.excitation.specs.declared.Join.the-variants as by
+use Rattle.laws.proofs.Turn.{list-at, list-long}
+use Rattle.excitation.specs.Excitation.{levelsOf}
+use Rattle.excitation.specs.Table.{startOf, joinAt, joinEntry, joinTable, eachEntry}
+use Rattle.excitation.specs.UncertaintySet.{code, decode, joinSets, each}
 use Rattle.excitation.specs.declared.Excitation.{Excitation}
 use Rattle.excitation.specs.declared.Join.{Join}
-use Rattle.excitation.specs.Excitation.{levelsOf}
-use Rattle.excitation.specs.UncertaintySet.{code, decode, joinSets, each}
-use Rattle.excitation.specs.Table.{startOf, joinAt, joinEntry, eachEntry}
+use Rattle.excitation.specs.declared.Join.the-variants as by
 use Rattle.excitation.proofs.Codes.{decode-low}
 
 pub each-at : (g : Excitation → Excitation) (n : ℕ) → getD (listBelow 16 (eachEntry g)) (n % 16) 0 ≡ code (each g (decode n))
@@ -30,7 +30,12 @@ third-at n a b h =
     list-at 768 joinEntry k 0 (omega arith) ∙ rw (p, q, r, decode-low a, decode-low b) refl
 
 pub join-at : (by : Join) (a b : ℕ)
-    → getD (listBelow 768 joinEntry) (startOf by + 16 * (a % 16) + b % 16) 0 ≡ code (joinSets (levelsOf by) (decode a) (decode b))
+    → getD joinTable (startOf by + 16 * (a % 16) + b % 16) 0 ≡ code (joinSets (levelsOf by) (decode a) (decode b))
+unfolding joinTable
 join-at by.And a b = third-at 0 a b (omega arith)
 join-at by.Or a b = third-at 1 a b (omega arith)
 join-at by.Xor a b = third-at 2 a b (omega arith)
+
+pub table-long : length joinTable ≡ 768
+unfolding joinTable
+table-long = list-long 768 joinEntry

@@ -9,7 +9,7 @@ use Rattle.excitation.specs.Excitation.{TwoLevel, excitation, l, h, hl, 
 use Rattle.excitation.specs.UncertaintySet.{UncertaintySet, member, _∈_, _⊆_, empty, setWhere, some, joinOfOne, joinOfBoth, joinSets, madeOf, each}
 use Rattle.excitation.proofs.Finite.{for-each}
 
-member-where : (p : Excitation → Bool) (e : Excitation) → member e (setWhere p) ≡ p e
+pub member-where : (p : Excitation → Bool) (e : Excitation) → member e (setWhere p) ≡ p e
 unfolding member
 member-where p = for-each (λ e. member e (setWhere p) ≡ p e) refl refl refl refl
 
@@ -39,10 +39,10 @@ level-same true false t = absurd (false≢true t)
 level-same false true t = absurd (false≢true t)
 level-same false false t = refl
 
-same-self : (e : Excitation) → same e e ≡ true
+pub same-self : (e : Excitation) → same e e ≡ true
 same-self e = and-both (level-self (e .before)) (level-self (e .after))
 
-same-gives : (a b : Excitation) → same a b ≡ true → a ≡ b
+pub same-gives : (a b : Excitation) → same a b ≡ true → a ≡ b
 same-gives a b t =
     let p = level-same (a .before) (b .before) (and-left _ (Bool·beq (a .after) (b .after)) t) in
     let q = level-same (a .after) (b .after) (and-right (Bool·beq (a .before) (b .before)) _ t) in
@@ -76,6 +76,17 @@ pub each-contains : (g : Excitation → Excitation) (a : Excitation) (s : Uncert
 unfolding each
 each-contains g a s x =
     member-where (madeOf g s) (g a) ∙ some-from (λ b. member b s && same (g b) (g a)) a (and-both x (same-self (g a)))
+
+pub each-members : (g : Excitation → Excitation) (s : UncertaintySet) (e : Excitation) → e ∈ each g s → (a : Excitation) × (a ∈ s) × (g a ≡ e)
+unfolding each
+each-members g s e m =
+    let x = some-gives (λ a. member a s && same (g a) e) (sym (member-where (madeOf g s) e) ∙ m) in
+    (x .0, and-left (member (x .0) s) _ (x .1), same-gives _ _ (and-right (member (x .0) s) _ (x .1)))
+
+-- A set is known by its members.
+pub set-is : (s t : UncertaintySet) → ((e : Excitation) → member e s ≡ member e t) → s ≡ t
+unfolding member
+set-is s t p = λ i. record { has-l = p l i; has-h = p h i; has-hl = p hl i; has-lh = p lh i }
 
 -- A set with no member, joined with any set on either side, gives a set with no member.
 pub join-empty-first : (f : TwoLevel) (t : UncertaintySet) → joinSets f empty t ≡ empty

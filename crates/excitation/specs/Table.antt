@@ -1,8 +1,9 @@
 -- The constant table of set joins (document 01, "Excitations and sets"): 256 entries for each of AND, OR and XOR, and entry
 -- 16 × first + second of the 256 gives the join.
 use Prim.Native.Nat.{ℕ, _/_, _%_}
-use mathlib.Core.List.{[], _∷_}
+use mathlib.Core.List.{List, [], _∷_}
 use lib.ListN.{getD}
+use Rattle.laws.specs.Turn.{listBelow}
 use Rattle.excitation.specs.declared.Join.the-variants as by
 use Rattle.excitation.specs.declared.Excitation.{Excitation}
 use Rattle.excitation.specs.declared.Join.{Join}
@@ -22,6 +23,10 @@ joinAt third = getD (by.And ∷ by.Or ∷ by.Xor ∷ []) third by.And
 -- The rule of the table of joins: what entry k is.
 unfoldable pub joinEntry : ℕ → ℕ
 joinEntry k = code (joinSets (levelsOf (joinAt (k / 256))) (decode (k / 16 % 16)) (decode (k % 16)))
+
+-- Document 01's constant table: 768 set joins.
+unfoldable pub joinTable : List ℕ
+joinTable = listBelow 768 joinEntry
 
 -- The rule of the tables of 16: what becomes of the set n when each of its members becomes another excitation.
 unfoldable pub eachEntry : (Excitation → Excitation) → ℕ → ℕ

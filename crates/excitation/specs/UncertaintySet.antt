@@ -36,6 +36,10 @@ empty = record { has-l = false; has-h = false; has-hl = false; has-lh = false }
 abbrev pub setWhere : (Excitation → Bool) → UncertaintySet
 setWhere p = record { has-l = p l; has-h = p h; has-hl = p hl; has-lh = p lh }
 
+-- The set whose one member is x.
+abbrev pub single : Excitation → UncertaintySet
+single x = setWhere (λ e. same e x)
+
 -- Whether some excitation passes a test.
 abbrev pub some : (Excitation → Bool) → Bool
 some p = p l || p h || p hl || p lh
@@ -85,3 +89,8 @@ heldAfterSet = each heldAfter
 -- How many members a set has.
 unfoldable pub size : UncertaintySet → ℕ
 size s = digit (s .has-l) + digit (s .has-h) + digit (s .has-hl) + digit (s .has-lh)
+
+-- A set whose members hold their level: neither hl nor lh is one of them.
+pub record Held (s : UncertaintySet) : Type 0 where
+  pub no-hl : member hl s ≡ false
+  pub no-lh : member lh s ≡ false

@@ -818,9 +818,6 @@ pub const JOINS: [u8; 768] = [
     15,
 ];
 
-// Entry n is the set n turned over.
-pub const INVERTED: [u8; 16] = [0, 2, 1, 3, 8, 10, 9, 11, 4, 6, 5, 7, 12, 14, 13, 15];
-
 // Entry n holds the first levels of the members of the set n.
 pub const HELD_BEFORE: [u8; 16] = [0, 1, 2, 3, 2, 3, 2, 3, 1, 1, 3, 3, 3, 3, 3, 3];
 

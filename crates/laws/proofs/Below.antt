@@ -1,6 +1,6 @@
 -- Laws of what is defined over the numbers below n.
 -- Assumes nothing.
-use Prim.Native.Nat.{ℕ, zero, suc, _+_, _≤_, _<_, max}
+use Prim.Native.Nat.{ℕ, zero, suc, _+_, _*_, _≤_, _<_, max}
 use mathlib.Core.Path.{_≡_, refl}
 use mathlib.Core.Bool.{Bool, true, false}
 use mathlib.Core.Logic.{⊎-elim}
@@ -8,7 +8,7 @@ use native.Mathlib.Nat.{not-suc-le-zero, eq-or-lt-of-le, le-of-suc-le-suc}
 use native.Mathlib.Numerals.{add-one}
 use native.Mathlib.Omega.{arith}
 use borrow.Table.Steps.{cases}
-use Rattle.laws.specs.Below.{allBelow, maxBelow, digit, countBelow}
+use Rattle.laws.specs.Below.{allBelow, maxBelow, sumBelow, digit, countBelow}
 use Rattle.laws.proofs.Tests.{and-left, and-right, and-both, and-second-fails}
 
 -- One number more, as a loop counts.
@@ -20,6 +20,10 @@ all-next n p s t = rw add-one (and-both s t)
 pub max-next : (n : ℕ) (f : ℕ → ℕ) → maxBelow (n + 1) f ≡ max (maxBelow n f) (f n)
 unfolding maxBelow
 max-next n f = rw add-one refl
+
+pub sum-next : (n : ℕ) (f : ℕ → ℕ) → sumBelow (n + 1) f ≡ sumBelow n f + f n
+unfolding sumBelow
+sum-next n f = rw add-one refl
 
 pub count-next : (n : ℕ) (p : ℕ → Bool) → countBelow (n + 1) p ≡ countBelow n p + digit (p n)
 unfolding countBelow
@@ -40,6 +44,13 @@ all-fails zero p k h e = absurd (not-suc-le-zero h)
 all-fails (suc n) p k h e =
     ⊎-elim (λ (q : k ≡ n). and-second-fails (allBelow n p) (rw q at e)) (λ l. rw (all-fails n p k l e) refl)
     (eq-or-lt-of-le (le-of-suc-le-suc h))
+
+-- No value below n is above the greatest.
+pub max-at : (n : ℕ) (f : ℕ → ℕ) (k : ℕ) → k < n → f k ≤ maxBelow n f
+unfolding maxBelow
+max-at zero f k h = absurd (not-suc-le-zero h)
+max-at (suc n) f k h =
+    ⊎-elim (λ (q : k ≡ n). rw q (omega arith)) (λ l. let m = max-at n f k l in omega arith) (eq-or-lt-of-le (le-of-suc-le-suc h))
 
 -- At most n numbers below n pass, and n do exactly where all do.
 
@@ -83,3 +94,40 @@ count-first (suc n) p f k h =
     ⊎-elim (λ (q : k ≡ n). (λ l. absurd (omega arith), λ l. rw q t))
     (λ m. let rest = count-first n p (λ j l u. f j (omega arith) u) k m in (λ l. rest .0 (omega arith), λ l. rest .1 (omega arith)))
     (eq-or-lt-of-le (le-of-suc-le-suc h)))
+
+-- The greatest and the sum of values that are the same, or no greater, number by number.
+
+pub max-same : (n : ℕ) (f g : ℕ → ℕ) → ((k : ℕ) → k < n → f k ≡ g k) → maxBelow n f ≡ maxBelow n g
+unfolding maxBelow
+max-same zero f g same = refl
+max-same (suc n) f g same = rw (max-same n f g (λ k h. same k (omega arith)), same n (omega arith)) refl
+
+pub max-at-most : (n : ℕ) (f g : ℕ → ℕ) → ((k : ℕ) → k < n → f k ≤ g k) → maxBelow n f ≤ maxBelow n g
+unfolding maxBelow
+max-at-most zero f g less = omega arith
+max-at-most (suc n) f g less = omega (arith, max-at-most n f g (λ k h. less k (omega arith)), less n (omega arith))
+
+pub sum-same : (n : ℕ) (f g : ℕ → ℕ) → ((k : ℕ) → k < n → f k ≡ g k) → sumBelow n f ≡ sumBelow n g
+unfolding sumBelow
+sum-same zero f g same = refl
+sum-same (suc n) f g same = rw (sum-same n f g (λ k h. same k (omega arith)), same n (omega arith)) refl
+
+pub sum-at-most : (n : ℕ) (f g : ℕ → ℕ) → ((k : ℕ) → k < n → f k ≤ g k) → sumBelow n f ≤ sumBelow n g
+unfolding sumBelow
+sum-at-most zero f g less = omega arith
+sum-at-most (suc n) f g less = omega (arith, sum-at-most n f g (λ k h. less k (omega arith)), less n (omega arith))
+
+-- A bound of each value bounds the sum.
+pub sum-within : (n : ℕ) (f : ℕ → ℕ) (bound : ℕ) → ((k : ℕ) → k < n → f k ≤ bound) → sumBelow n f ≤ n * bound
+unfolding sumBelow
+sum-within zero f bound each = omega arith
+sum-within (suc n) f bound each = omega (arith, sum-within n f bound (λ k h. each k (omega arith)), each n (omega arith))
+
+-- Values that are 0 from n on add nothing to the greatest.
+pub max-beyond : (m n : ℕ) (f : ℕ → ℕ) → n ≤ m → ((k : ℕ) → n ≤ k → k < m → f k ≡ 0) → maxBelow m f ≡ maxBelow n f
+unfolding maxBelow
+max-beyond zero n f h none = let e : n ≡ 0 = omega arith in rw e refl
+max-beyond (suc m) n f h none =
+    ⊎-elim (λ (e : n ≡ suc m). rw e refl)
+    (λ l. omega (arith, max-beyond m n f (le-of-suc-le-suc l) (λ k low high. none k low (omega arith)), none m (le-of-suc-le-suc l) (omega arith)))
+    (eq-or-lt-of-le h)

@@ -1,4 +1,7 @@
 pub mod Tests
 pub mod Numbers
 pub mod Below
+pub mod Lists
 pub mod Turn
+pub mod Pairs
+pub mod Rewritten

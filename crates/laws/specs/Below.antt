@@ -17,6 +17,11 @@ unfoldable pub maxBelow : ℕ → (ℕ → ℕ) → ℕ
 maxBelow zero f = 0
 maxBelow (suc n) f = max (maxBelow n f) (f n)
 
+-- The sum of the values of f below n.
+unfoldable pub sumBelow : ℕ → (ℕ → ℕ) → ℕ
+sumBelow zero f = 0
+sumBelow (suc n) f = sumBelow n f + f n
+
 -- 1 where a test passes, 0 where it fails.
 abbrev pub digit : Bool → ℕ
 digit true = 1

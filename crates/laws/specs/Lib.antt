@@ -1,2 +1,3 @@
 pub mod Below
 pub mod Turn
+pub mod Rewritten

@@ -1,23 +1,21 @@
--- `excitation::Set::invert` meets its contract. The table in the code is compared, entry by entry, with the values of its rule.
+-- `excitation::Set::invert` meets its contract.
 -- Assumes nothing.
-use borrow.Author.Needs.{needs}
-use Rattle.laws.specs.Turn.{inTurn, listBelow}
-use Rattle.excitation.specs.Excitation.{invertExcitation}
-use Rattle.excitation.specs.UncertaintySet.{code, decode, member, each}
-use Rattle.excitation.specs.Table.{eachEntry}
-use Rattle.excitation.proofs.Lookup.{each-at}
-use Rattle.excitation.proofs.Set.invert.Tie as tie
+use Prim.Native.Nat.{_%_}
+use mathlib.Core.Path.{ap, _∙_}
+use native.Mathlib.Omega.{arith}
+use Rattle.excitation.specs.UncertaintySet.{code, invertSet}
+use Rattle.excitation.proofs.Codes.{decode-low, bits-small, invert-bits}
 use Rattle.excitation.proofs.Set.invert.Statement.{statement}
+use Rattle.excitation.proofs.Set.invert.Tie as tie
 
-cast-t4 : tie.Need-cast-t4
-cast-t4 c = search needs
+mul-t4 : tie.Need-mul-t4
+mul-t4 c = let small = bits-small (c .before .args .self .code % 16) (omega arith) in omega arith
 
-array-read-t7 : tie.Need-array-read-t7
-array-read-t7 c = search needs
+add-t7 : tie.Need-add-t7
+add-t7 c = let small = bits-small (c .before .args .self .code % 16) (omega arith) in omega arith
 
 returns : tie.Need-returns
-unfolding inTurn listBelow eachEntry code decode member each
-returns c = each-at invertExcitation (c .before .args .self .code)
+returns c = invert-bits (c .before .args .self .code % 16) (omega arith) ∙ ap (λ s. code (invertSet s)) (decode-low (c .before .args .self .code))
 
 pub invert-spec : {M : Type 1} → statement M
-invert-spec = tie.close (tie.spec cast-t4 array-read-t7 returns)
+invert-spec = tie.close (tie.spec mul-t4 add-t7 returns)

@@ -1,13 +1,12 @@
--- `excitation::Set::join` meets its contract. The table in the code is compared, entry by entry, with the values of its rule.
+-- `excitation::Set::join` meets its contract.
 -- Assumes nothing.
-use mathlib.Core.Bool.{xor}
+use mathlib.Core.Path.{ap}
+use native.Mathlib.Omega.{arith}
+use lib.ListN.{length}
 use borrow.Author.Needs.{needs}
-use Rattle.laws.specs.Turn.{inTurn, listBelow}
-use Rattle.excitation.specs.UncertaintySet.{code, decode, member, joinSets}
-use Rattle.excitation.specs.Table.{joinEntry}
-use Rattle.excitation.proofs.Lookup.{join-at}
-use Rattle.excitation.proofs.Set.join.Tie as tie
+use Rattle.excitation.proofs.Lookup.{join-at, table-long}
 use Rattle.excitation.proofs.Set.join.Statement.{statement}
+use Rattle.excitation.proofs.Set.join.Tie as tie
 
 start-of-requires : tie.Need-start-of-requires
 start-of-requires c κs = search needs
@@ -27,14 +26,13 @@ cast-entry-2 c = search needs
 add-entry-2 : tie.Need-add-entry-2
 add-entry-2 c = search needs
 
-array-read-t15 : tie.Need-array-read-t15
-array-read-t15 c = search needs
+shared-slice-read-t14 : tie.Need-shared-slice-read-t14
+shared-slice-read-t14 c = omega (arith, ap length (c .before .before .before .before .before .pre), table-long)
 
--- Here the constant table of the code is compared with `listBelow 768 joinEntry`, of which `join-at` speaks: the computed test over
--- all 768 entries.
 returns : tie.Need-returns
-unfolding inTurn listBelow joinEntry xor code decode member joinSets
-returns c = rw (c .before .before .start-of .ensures .0) (join-at (c .before .before .before .args .by) _ _)
+returns c =
+    let s = c .before .before .before .before .before in
+    rw (s .pre, c .before .before .before .start-of .ensures .0) (join-at (s .args .by) (s .args .self .code) (s .args .other .code))
 
 pub join-spec : {M : Type 1} → statement M
 join-spec =
@@ -46,5 +44,5 @@ join-spec =
     add-entry
     cast-entry-2
     add-entry-2
-    array-read-t15
+    shared-slice-read-t14
     returns)

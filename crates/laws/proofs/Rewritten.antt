@@ -1,0 +1,40 @@
+-- Laws of buffers of which one stretch was written by a rule: a loop that writes them word by word.
+-- Assumes nothing.
+use Prim.Native.Nat.{ℕ, _+_, _-_, _≤_, _<_}
+use mathlib.Core.Path.{_≡_, refl, ap, sym, subst, _∙_}
+use mathlib.Core.List.{List}
+use mathlib.Core.Logic.{_⊎_, inl, inr, ⊎-elim}
+use native.Mathlib.Nat.{eq-or-lt-of-le, zero-add}
+use native.Mathlib.Omega.{arith}
+use lib.ListN.{length, getD, set, length-set}
+use lib.Seq.{getD-set-same, getD-set-other}
+use Rattle.laws.specs.Rewritten.{Rewritten}
+
+-- Nothing is written yet.
+pub rewritten-none : (f : ℕ → ℕ) (from : ℕ) (given : List ℕ) → Rewritten f from 0 given given
+rewritten-none f from given = record { long = refl; done = λ k h. absurd (omega arith); rest = λ j h. refl }
+
+-- One word more.
+pub rewritten-next : (f : ℕ → ℕ) (from n at v : ℕ) (given now : List ℕ) → at ≡ from + n → at < length given → v ≡ f n
+    → Rewritten f from n given now → Rewritten f from (n + 1) given (set now at v)
+rewritten-next f from n at v given now e h r w = record {
+  long = length-set now at v ∙ w .long;
+  done = λ k l. ⊎-elim
+      (λ (q : k ≡ n). let i : at ≡ from + k = omega arith in
+      let placed : getD (set now at v) at 0 ≡ f k = getD-set-same now at v 0 (omega (arith, w .long)) ∙ r ∙ rw q refl in
+      subst (λ j. getD (set now at v) j 0 ≡ f k) i placed)
+      (λ m. getD-set-other now at (from + k) v 0 (λ z. omega arith) ∙ w .done k m)
+      (eq-or-lt-of-le (omega arith));
+  rest = λ j o. ⊎-elim
+      (λ b. getD-set-other now at j v 0 (λ z. omega arith) ∙ w .rest j (inl b))
+      (λ b. getD-set-other now at j v 0 (λ z. omega arith) ∙ w .rest j (inr (omega arith)))
+      o;
+}
+
+-- A stretch of another length that is the same.
+pub rewritten-to : (f : ℕ → ℕ) (from n m : ℕ) (given now : List ℕ) → n ≡ m → Rewritten f from n given now → Rewritten f from m given now
+rewritten-to f from n m given now e w = subst (λ k. Rewritten f from k given now) e w
+
+-- A stretch from the start of the buffer on.
+pub rewritten-first : (f : ℕ → ℕ) (n : ℕ) (given now : List ℕ) → Rewritten f 0 n given now → (k : ℕ) → k < n → getD now k 0 ≡ f k
+rewritten-first f n given now w k h = ap (λ j. getD now j 0) (sym (zero-add k)) ∙ w .done k h
