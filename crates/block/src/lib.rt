@@ -1,6 +1,6 @@
 // The block file: its records, what a gate's kind decides, and the reader.
 ghost use mathlib.Core.Path.{_≡_};
-ghost use Prim.Native.Nat.{_*_, _<_};
+ghost use Prim.Native.Nat.{_*_, _<_, max};
 ghost use Rattle.block.specs.Verdict.{refusal};
 ghost use Rattle.block.specs.declared.ReadAnswer.the-variants.{Refused};
 ghost use Rattle.block.specs.Refusals.{readOf};
@@ -48,10 +48,17 @@ pub enum ReadAnswer {
 }
 
 // A byte as a number.
-fn wide(x: u8) -> usize
+pub fn wide(x: u8) -> usize
     ensures { λ r. ⌜ (r ≡ x) × (r < 256) ⌝ }
 {
     x as usize
+}
+
+// The greater of two numbers.
+pub fn greater(a: usize, b: usize) -> usize
+    ensures { λ r. ⌜ r ≡ max a b ⌝ }
+{
+    if a < b { b } else { a }
 }
 
 // The refusal of a whole file, at place 0.

@@ -1,6 +1,6 @@
 // Checks 4 to 10 on a record, and the records of a file in order.
 ghost use mathlib.Core.Path.{_≡_};
-ghost use Prim.Native.Nat.{_<_, _≤_, max};
+ghost use Prim.Native.Nat.{_<_, _≤_};
 ghost use lib.ListN.{take};
 ghost use Rattle.laws.specs.Below.{digit};
 ghost use Rattle.block.specs.declared.Verdict.the-variants.{Accepted};
@@ -14,15 +14,9 @@ use super::Net;
 use super::ReadAnswer;
 use super::Verdict;
 use super::checks;
+use super::greater;
 use super::record;
 use super::wide;
-
-// The greater of two numbers.
-fn greater(a: usize, b: usize) -> usize
-    ensures { λ r. ⌜ r ≡ max a b ⌝ }
-{
-    if a < b { b } else { a }
-}
 
 // The greatest arrival of a gate's pins.
 fn latest_pin(file: &[u8], net: Net, earlier: &[u8; 1024]) -> usize

@@ -1,7 +1,7 @@
 // The fields of a record, read through the file's bytes. Each is named as document 01 names it.
 ghost use mathlib.Core.Path.{_≡_};
 ghost use Prim.Native.Nat.{_<_};
-ghost use Rattle.block.specs.Record.{HasRecord, byteAt, wordAt, kind, contact, delay, pinCount, pin, rise, fall, allowed};
+ghost use Rattle.block.specs.Record.{HasRecord, byteAt, wordAt, kind, contact, delay, pinCount, pin, rise, fall, peakLh, peakHl, allowed};
 use super::Net;
 use super::wide;
 
@@ -70,6 +70,20 @@ pub fn fall(file: &[u8], net: Net) -> usize
     ensures { λ r. ⌜ (r ≡ fall (now (file .entry)) (net .0)) × (r < 256) ⌝ }
 {
     byte(file, net, 13)
+}
+
+pub fn peak_lh(file: &[u8], net: Net) -> usize
+    requires { ⌜ HasRecord (now file) (net .0) ⌝ }
+    ensures { λ r. ⌜ (r ≡ peakLh (now (file .entry)) (net .0)) × (r < 65536) ⌝ }
+{
+    word(file, net, 14)
+}
+
+pub fn peak_hl(file: &[u8], net: Net) -> usize
+    requires { ⌜ HasRecord (now file) (net .0) ⌝ }
+    ensures { λ r. ⌜ (r ≡ peakHl (now (file .entry)) (net .0)) × (r < 65536) ⌝ }
+{
+    word(file, net, 16)
 }
 
 pub fn allowed(file: &[u8], net: Net) -> usize
