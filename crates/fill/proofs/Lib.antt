@@ -1,0 +1,9 @@
+pub mod Examples
+pub mod Runs
+pub mod Gaps
+pub mod Merged
+pub mod Ticks
+pub mod Filled
+pub mod Scans
+pub mod Codes
+pub mod Filling
