@@ -1,0 +1,10 @@
+pub mod Unpacking
+pub mod Written
+pub mod Rows
+pub mod Pins
+pub mod Joined
+pub mod Waveforms
+pub mod Within
+pub mod Settles
+pub mod Singles
+pub mod Made

@@ -1,0 +1,15 @@
+-- Laws of rows in the work buffer.
+-- Assumes nothing.
+use Prim.Native.Nat.{ℕ, _<_}
+use mathlib.Core.List.{List}
+use native.Mathlib.Omega.{arith}
+use Rattle.block.specs.Accepted.{GateRecord}
+use Rattle.block.specs.Record.{File, pinCount, pin}
+use Rattle.waveform.specs.Rows.{HasRow}
+
+-- A buffer with room for the row of a gate has room for those of its pins.
+pub pin-row : (file : File) (net : ℕ) (work : List ℕ) (p : ℕ) → GateRecord file net → HasRow work net → p < pinCount file net
+    → HasRow work (pin file net p)
+pin-row file net work p gate room h =
+    let below = gate .pin-below p h in
+    record { whole = omega (arith, room .whole); numbered = omega (arith, room .numbered) }

@@ -1,0 +1,3 @@
+pub mod Waveform
+pub mod Rows
+pub mod Pins
