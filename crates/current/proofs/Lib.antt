@@ -1,0 +1,12 @@
+pub mod Examples
+pub mod Words
+pub mod Levels
+pub mod Pulses
+pub mod Rows
+pub mod Ticks
+pub mod Bits
+pub mod Edges
+pub mod Gates
+pub mod Contacts
+pub mod Drops
+pub mod Sheets

@@ -1,0 +1,131 @@
+-- Laws of a pulse: it rises to its peak, falls after it and ends. Nothing else opens its rounding.
+-- Assumes nothing.
+use Prim.Native.Nat.{ℕ, _+_, _*_, _/_, _-_, _≤_, _<_}
+use mathlib.Core.Path.{_≡_, sym, ap, _∙_}
+use native.Mathlib.Nat.{le-div-iff-mul-le, div-mul-le-self, mul-le-mul-left, mul-le-mul-right, le-refl, le-trans, mul-div-cancel, zero-div, div-le-of-le-mul}
+use native.Mathlib.Omega.{arith}
+use lib.Dec.{leb, ltb, eqb}
+use borrow.Author.Tests.{le-leb, lt-leb, leb-true, leb-false, le-ltb, eqb-true, eqb-false}
+use borrow.Table.Steps.{cases}
+use Rattle.current.specs.Levels.{InRange, levelAfter, levelBy, Factored}
+use Rattle.current.specs.Pulse.{pulse, pulseAt}
+use Rattle.current.proofs.Levels.{level-by}
+
+-- A pulse by its parts.
+
+pulse-up : (P r f k : ℕ) → k ≤ r → pulse P r f k ≡ levelAfter P r k
+unfolding pulse levelAfter
+pulse-up P r f k h = rw (le-leb k r h)
+
+pulse-down : (P r f k : ℕ) → r < k → k ≤ r + f → pulse P r f k ≡ levelAfter P f (r + f - k)
+unfolding pulse levelAfter
+pulse-down P r f k h l = rw (lt-leb k r h, le-leb k (r + f) l)
+
+pulse-over : (P r f k : ℕ) → r + f < k → pulse P r f k ≡ 0
+unfolding pulse
+pulse-over P r f k l = rw (lt-leb k r (omega arith), lt-leb k (r + f) l)
+
+level-rises : (P steps : ℕ) {j k : ℕ} → 1 ≤ steps → j ≤ k → levelAfter P steps j ≤ levelAfter P steps k
+unfolding levelAfter
+level-rises P steps {j} {k} one h = le-div-iff-mul-le one .1 (le-trans (div-mul-le-self (P * j) steps) (mul-le-mul-left P h))
+
+level-grows : {P Q : ℕ} (steps j : ℕ) → 1 ≤ steps → P ≤ Q → levelAfter P steps j ≤ levelAfter Q steps j
+unfolding levelAfter
+level-grows {P} {Q} steps j one h = le-div-iff-mul-le one .1 (le-trans (div-mul-le-self (P * j) steps) (mul-le-mul-right j h))
+
+level-most : (P steps j : ℕ) → j ≤ steps → levelAfter P steps j ≤ P
+unfolding levelAfter
+level-most P steps j h =
+    let a : P * j ≤ P * steps = mul-le-mul-left P h in
+    div-le-of-le-mul steps (omega arith)
+
+level-none : (P steps j : ℕ) → j ≡ 0 → levelAfter P steps j ≡ 0
+unfolding levelAfter
+level-none P steps j e = rw e (ap (λ x. x / steps) (let z : P * 0 ≡ 0 = omega arith in z) ∙ zero-div steps)
+
+module _ {P r f : ℕ} (range : InRange P r f) where
+  pub pulse-top : pulse P r f r ≡ P
+  unfolding levelAfter
+  pulse-top = pulse-up P r f r (le-refl r) ∙ mul-div-cancel P (range .rise-low)
+
+  pub pulse-ends : (k : ℕ) → r + f ≤ k → pulse P r f k ≡ 0
+  pulse-ends k h =
+      let low = range .fall-low in
+      cases (leb k (r + f))
+      (λ t. let q = leb-true k (r + f) t in pulse-down P r f k (omega arith) q ∙ level-none P f (r + f - k) (omega arith))
+      (λ t. pulse-over P r f k (leb-false k (r + f) t))
+
+  pub pulse-most : (k : ℕ) → pulse P r f k ≤ P
+  pulse-most k =
+      cases (leb k r)
+      (λ t. let h = leb-true k r t in rw (pulse-up P r f k h) (level-most P r k h))
+      (λ t. let h = leb-false k r t in
+      cases (leb k (r + f))
+      (λ u. rw (pulse-down P r f k h (leb-true k (r + f) u)) (level-most P f (r + f - k) (omega arith)))
+      (λ u. rw (pulse-over P r f k (leb-false k (r + f) u)) (omega arith)))
+
+  pub pulse-at-most : (D x t : ℕ) → pulseAt P r f D x t ≤ P
+  unfolding pulseAt
+  pulse-at-most D x t = cases (ltb (t + D) x) (λ b. rw b (omega arith)) (λ b. rw b (pulse-most (t + D - x)))
+
+  pub pulse-rises : {j k : ℕ} → j ≤ k → k ≤ r → pulse P r f j ≤ pulse P r f k
+  pulse-rises {j} {k} h l = rw (pulse-up P r f k l, pulse-up P r f j (omega arith)) (level-rises P r (range .rise-low) h)
+
+  pub pulse-falls : {j k : ℕ} → r ≤ j → j ≤ k → pulse P r f k ≤ pulse P r f j
+  pulse-falls {j} {k} low h =
+      cases (eqb j r)
+      (λ t. let q : j ≡ r = eqb-true j r t in rw (q, pulse-top) (pulse-most k))
+      (λ t. let n = eqb-false j r t in
+      cases (leb k (r + f))
+      (λ u. let l = leb-true k (r + f) u in
+      rw (pulse-down P r f k (omega arith) l, pulse-down P r f j (omega arith) (omega arith)) (level-rises P f (range .fall-low) (omega arith)))
+      (λ u. rw (pulse-over P r f k (leb-false k (r + f) u)) (omega arith)))
+
+-- A pulse with a greater peak is nowhere below.
+module _ {P Q r f : ℕ} (range : InRange P r f) (h : Q ≤ P) where
+  lower-range : InRange Q r f
+  lower-range = record {
+    peak-high = (let high = range .peak-high in omega arith);
+    rise-low = range .rise-low;
+    rise-high = range .rise-high;
+    fall-low = range .fall-low;
+    fall-high = range .fall-high;
+  }
+
+  pulse-grows : (k : ℕ) → pulse Q r f k ≤ pulse P r f k
+  pulse-grows k =
+      cases (leb k r)
+      (λ t. let l = leb-true k r t in rw (pulse-up P r f k l, pulse-up Q r f k l) (level-grows r k (range .rise-low) h))
+      (λ t. let l = leb-false k r t in
+      cases (leb k (r + f))
+      (λ u. let m = leb-true k (r + f) u in
+      rw (pulse-down P r f k l m, pulse-down Q r f k l m) (level-grows f (r + f - k) (range .fall-low) h))
+      (λ u. rw (pulse-over Q r f k (leb-false k (r + f) u)) (omega arith)))
+
+  pub pulse-at-grows : (D x t : ℕ) → pulseAt Q r f D x t ≤ pulseAt P r f D x t
+  unfolding pulseAt
+  pulse-at-grows D x t = cases (ltb (t + D) x) (λ b. rw b (omega arith)) (λ b. rw b (pulse-grows (t + D - x)))
+
+pub lower-ready : {P Q r f rising falling : ℕ} → Factored P r f rising falling → Q ≤ P → Factored Q r f rising falling
+lower-ready ready h = record { range = lower-range (ready .range) h; rising-by = ready .rising-by; falling-by = ready .falling-by }
+
+-- A pulse has ended where its fall is past.
+pub pulse-quiet : (P r f D x t : ℕ) → x + r + f < t + D → pulseAt P r f D x t ≡ 0
+unfolding pulseAt
+pulse-quiet P r f D x t h = rw (le-ltb (t + D) x (omega arith)) (pulse-over P r f (t + D - x) (omega arith))
+
+-- The levels that the code takes are those of the pulse.
+module _ {P r f rising falling : ℕ} (ready : Factored P r f rising falling) (k : ℕ) where
+  pub rise-level : {level : ℕ} → k < r → level ≡ levelBy P rising k → level ≡ pulse P r f k
+  rise-level h e =
+      let range = ready .range in
+      let high = range .rise-high in
+      e ∙ ap (λ factor. levelBy P factor k) (ready .rising-by) ∙ level-by P r k (range .peak-high) (range .rise-low) high (omega arith)
+      ∙ sym (pulse-up P r f k (omega arith))
+
+  pub fall-level : {level : ℕ} → r < k → k ≤ r + f → level ≡ levelBy P falling (r + f - k) → level ≡ pulse P r f k
+  fall-level h l e =
+      let range = ready .range in
+      let high = range .fall-high in
+      e ∙ ap (λ factor. levelBy P factor (r + f - k)) (ready .falling-by)
+      ∙ level-by P f (r + f - k) (range .peak-high) (range .fall-low) high (omega arith) ∙ sym (pulse-down P r f k h l)

@@ -1,0 +1,62 @@
+-- `current::edge::next_chosen` meets its contract.
+-- Assumes nothing.
+use Prim.Native.Nat.{ℕ, _-_, _≤_, _<_}
+use mathlib.Core.Bool.{false}
+use mathlib.Core.Path.{_≡_}
+use native.Mathlib.Omega.{arith}
+use borrow.Author.Needs.{needs}
+use borrow.Author.Tests.{eq-eqb, ne-eqb}
+use Rattle.current.specs.Edges.{chosen}
+use Rattle.current.proofs.Edges.{span-next}
+use Rattle.current.proofs.edge.next_chosen.Statement.{statement}
+use Rattle.current.proofs.edge.next_chosen.Tie as tie
+
+abbrev Inv-loop : tie.InvT-loop
+Inv-loop codes choice from t₀ t = (from ≤ t) × ((k : ℕ) → from ≤ k → k < t → chosen (choice .mask) (choice .bit) codes k ≡ false)
+
+abbrev μ-loop : tie.MeasureT-loop
+μ-loop codes choice from t₀ t = choice .stop - t
+
+loop-holds : tie.Need-loop-holds Inv-loop μ-loop
+loop-holds c = (omega arith, λ k low high. absurd (omega arith))
+
+shared-slice-read-if2 : tie.Need-shared-slice-read-if2 Inv-loop μ-loop
+shared-slice-read-if2 c = let start = c .before .before .before .before in omega (arith, start .pre .0 .long)
+
+returns : tie.Need-returns Inv-loop μ-loop
+unfolding chosen
+returns c =
+    let loop = c .before .before .before .before .before .before .loop in
+    record { low = loop .inv .0; gap = loop .inv .1; here = λ h. eq-eqb _ _ (c .if2 .taken) }
+
+add-t : tie.Need-add-t Inv-loop μ-loop
+add-t c = search needs
+
+loop-less : tie.Need-loop-less Inv-loop μ-loop
+loop-less c = search needs
+
+loop-again : tie.Need-loop-again Inv-loop μ-loop
+unfolding chosen
+loop-again c =
+    let start = c .before .before .before .before .before .before .before in
+    let loop = c .before .before .before .before .before .before .loop in
+    (omega arith, span-next (start .args .choice .mask) (start .args .choice .bit) (start .args .codes .now) (loop .inv .1) (ne-eqb _ _ (c .if2 .left)))
+
+returns-2 : tie.Need-returns-2 Inv-loop μ-loop
+returns-2 c =
+    let loop = c .before .before .loop in
+    record { low = loop .inv .0; gap = loop .inv .1; here = λ h. absurd (omega arith) }
+
+pub next-chosen-spec : {M : Type 1} → statement M
+next-chosen-spec =
+    tie.close
+    (tie.spec
+    Inv-loop
+    μ-loop
+    loop-holds
+    shared-slice-read-if2
+    returns
+    add-t
+    loop-less
+    loop-again
+    returns-2)

@@ -1,0 +1,74 @@
+-- Currents, the sheet and the drop (document 01, "Levels and simulation").
+use Prim.Native.Nat.{ℕ, suc, _+_, _*_, _/_, _%_, max}
+use mathlib.Core.Bool.{Bool, true, false, cond, _&&_, not}
+use mathlib.Core.List.{List, [], _∷_, map}
+use lib.Dec.{eqb}
+use lib.ListN.{length, getD}
+use Rattle.laws.specs.Below.{maxBelow, sumBelow}
+use Rattle.laws.specs.Turn.{listBelow}
+use Rattle.excitation.specs.Excitation.{hl, lh}
+use Rattle.block.specs.Record.{File, netCount, contact, delay, rise, fall, peakLh, peakHl, isInput}
+use Rattle.waveform.specs.Waveform.{Waveform, Values, waveforms}
+use Rattle.current.specs.Pulse.{pulseAt}
+
+-- The ticks at which a value passes a test. The first of these values is that of tick t.
+unfoldable pub ticksWhere : {A : Type 0} → (A → Bool) → ℕ → List A → List ℕ
+ticksWhere p t [] = []
+ticksWhere p t (x ∷ later) = let rest = ticksWhere p (suc t) later in cond (p x) (t ∷ rest) rest
+
+-- The transitions that a gate may have: the ticks of lh, and those of hl.
+pub record Transitions : Type 0 where
+  pub rises : List ℕ
+  pub falls : List ℕ
+
+-- The greatest value of f at these ticks, 0 where there is none.
+unfoldable pub greatestAt : (ℕ → ℕ) → List ℕ → ℕ
+greatestAt f [] = 0
+greatestAt f (x ∷ rest) = max (f x) (greatestAt f rest)
+
+-- A gate's current at tick t: the greatest of its pulses at that tick, P being the peak for that edge.
+unfoldable pub gateCurrent : File → ℕ → Transitions → ℕ → ℕ
+gateCurrent file net transitions t =
+    max
+    (greatestAt (λ x. pulseAt (peakLh file net) (rise file net) (fall file net) (delay file net) x t) (transitions .rises))
+    (greatestAt (λ x. pulseAt (peakHl file net) (rise file net) (fall file net) (delay file net) x t) (transitions .falls))
+
+-- Whether a net is a gate of a contact. Inputs draw no current.
+unfoldable pub drawsAt : File → ℕ → ℕ → Bool
+drawsAt file c net = not (isInput file net) && eqb (contact file net) c
+
+-- What a net adds to the current of contact c at tick t.
+unfoldable pub part : File → List Transitions → ℕ → ℕ → ℕ → ℕ
+part file transitions c t net =
+    elim (drawsAt file c net) [ true ↦ gateCurrent file net (getD transitions net (record { rises = []; falls = [] })) t | false ↦ 0 ]
+
+-- A contact's current at tick t: the sum over its gates.
+unfoldable pub contactCurrent : File → List Transitions → ℕ → ℕ → ℕ
+contactCurrent file transitions c t = sumBelow (netCount file) (part file transitions c t)
+
+-- A sheet: the current of each contact at each tick.
+abbrev pub Sheet : Type 0
+Sheet = ℕ → ℕ → ℕ
+
+-- Document 01's sheet as a buffer has it: 16 rows of 512 ticks, contact 0 first.
+unfoldable pub sheetWords : Sheet → List ℕ
+sheetWords sheet = listBelow 8192 (λ i. sheet (i / 512) (i % 512))
+
+-- Document 01's drop, in nanovolts: the greatest over nodes and ticks of the sum of resistance × current. The table has a row of 16
+-- resistances per bus node.
+unfoldable pub dropAt : List ℕ → Sheet → ℕ → ℕ → ℕ
+dropAt table sheet node t = sumBelow 16 (λ c. getD table (16 * node + c) 0 * sheet c t)
+
+unfoldable pub dropOf : List ℕ → Sheet → ℕ
+dropOf table sheet = maxBelow (length table / 16) (λ node. maxBelow 512 (λ t. dropAt table sheet node t))
+
+module _ (𝓥 : Values) where
+  open Values 𝓥 using (Value, allows)
+
+  -- The transitions that a waveform allows.
+  unfoldable pub transitionsOf : Waveform Value → Transitions
+  transitionsOf w = record { rises = ticksWhere (allows lh) 0 (w .ticks); falls = ticksWhere (allows hl) 0 (w .ticks) }
+
+  -- The sheet of a block whose inputs have these values.
+  unfoldable pub sheetOf : File → List Value → Sheet
+  sheetOf file inputs = contactCurrent file (map transitionsOf (waveforms 𝓥 file inputs (netCount file)))

@@ -1,0 +1,65 @@
+// Pulses drawn into a row: each tick of the row is raised to the pulse, where it is lower.
+ghost use mathlib.Core.Path.{_≡_};
+ghost use Prim.Native.Nat.{_+_, _≤_, _<_, max};
+ghost use lib.ListN.{length};
+ghost use Rattle.current.specs.Words.{Written};
+ghost use Rattle.current.specs.Levels.{Factored};
+ghost use Rattle.current.specs.Runs.{raisedToPulse, raisedTo, RunDrawn};
+use super::level::Pulse;
+use super::level::level;
+
+fn greater(a: u32, b: u32) -> u32
+    ensures { λ r. ⌜ r ≡ max a b ⌝ }
+{
+    if a < b {
+        return b;
+    }
+    a
+}
+
+// The rise of a pulse that starts at tick `start`, up to before the peak.
+fn draw_rise(row: &mut [u32], pulse: Pulse, start: usize)
+    requires { ⌜ (length (now row) ≡ 512) × Factored (pulse .peak) (pulse .rise) (pulse .fall) (pulse .rising) (pulse .falling) × (start < 256) ⌝ }
+    ensures { λ _. ⌜ Written start (start + pulse .rise) (raisedToPulse (now (row .entry)) (pulse .peak) (pulse .rise) (pulse .fall) start) (now (row .entry)) (now (row .exit)) ⌝ }
+{
+    let mut k: usize = 0;
+    while k < pulse.rise {
+        row[start + k] = greater(row[start + k], level(pulse.peak, pulse.rising, k));
+        k += 1;
+    }
+}
+
+// The fall of a pulse that starts at tick `start`, from after the peak.
+fn draw_fall(row: &mut [u32], pulse: Pulse, start: usize)
+    requires { ⌜ (length (now row) ≡ 512) × Factored (pulse .peak) (pulse .rise) (pulse .fall) (pulse .rising) (pulse .falling) × (start < 256) ⌝ }
+    ensures { λ _. ⌜ Written (start + (pulse .rise + 1)) (start + (pulse .rise + pulse .fall)) (raisedToPulse (now (row .entry)) (pulse .peak) (pulse .rise) (pulse .fall) start) (now (row .entry)) (now (row .exit)) ⌝ }
+{
+    let end = pulse.rise + pulse.fall;
+    let mut k = pulse.rise + 1;
+    while k < end {
+        row[start + k] = greater(row[start + k], level(pulse.peak, pulse.falling, end - k));
+        k += 1;
+    }
+}
+
+// A height from tick `from` to before tick `to`.
+fn draw_level(row: &mut [u32], from: usize, to: usize, height: u32)
+    requires { ⌜ (length (now row) ≡ 512) × (from ≤ to) × (to ≤ 512) ⌝ }
+    ensures { λ _. ⌜ Written from to (raisedTo (now (row .entry)) height) (now (row .entry)) (now (row .exit)) ⌝ }
+{
+    let mut t = from;
+    while t < to {
+        row[t] = greater(row[t], height);
+        t += 1;
+    }
+}
+
+// The pulses that start at ticks `first` to `last`. Between the first one's rise and the last one's fall they hold the peak.
+pub fn draw_run(row: &mut [u32], pulse: Pulse, first: usize, last: usize)
+    requires { ⌜ (length (now row) ≡ 512) × Factored (pulse .peak) (pulse .rise) (pulse .fall) (pulse .rising) (pulse .falling) × (first ≤ last) × (last < 256) ⌝ }
+    ensures { λ _. ⌜ RunDrawn (pulse .peak) (pulse .rise) (pulse .fall) first last (now (row .entry)) (now (row .exit)) ⌝ }
+{
+    draw_rise(row, pulse, first);
+    draw_level(row, first + pulse.rise, last + pulse.rise + 1, pulse.peak);
+    draw_fall(row, pulse, last);
+}

@@ -1,0 +1,78 @@
+// One gate drawn: its current made in a row, and the row added to its contact's row of the sheet.
+ghost use mathlib.Core.Path.{_≡_};
+ghost use Prim.Native.Nat.{_+_, _≤_, _<_};
+ghost use lib.ListN.{replicate};
+ghost use Rattle.current.specs.Drawing.{Drawable, Drawn};
+ghost use Rattle.current.specs.Edges.{GateCodes, RowDrawn};
+use super::edge;
+use super::level;
+use super::level::Pulse;
+use super::sheet;
+use block::Net;
+use block::record;
+
+// The first tick at which no pulse of a gate is left.
+fn quiet_from(last: usize, delay: usize, rise: usize, fall: usize) -> usize
+    requires { ⌜ (last < 256) × (rise < 128) × (fall < 128) ⌝ }
+    ensures { λ r. ⌜ (r ≤ 512) × (last + rise + fall < r + delay) ⌝ }
+{
+    let end = last + rise + fall + 1;
+    if end <= delay {
+        return 0;
+    }
+    end - delay
+}
+
+// A gate's current, drawn into a row of zeros.
+fn draw_row(file: &[u8], net: Net, codes: &[u8], last: usize, seen: u8, row: &mut [u32])
+    requires { ⌜ GateCodes (now file) (net .0) (now codes) last seen × (now row ≡ replicate 512 0) ⌝ }
+    ensures { λ _. ⌜ RowDrawn (now (file .entry)) (net .0) (now (codes .entry)) (now (row .exit)) ⌝ }
+{
+    let delay = record::delay(file, net);
+    let rise = record::rise(file, net);
+    let fall = record::fall(file, net);
+    let rising = level::factor(rise);
+    let falling = level::factor(fall);
+    let peak_lh = record::peak_lh(file, net) as u32;
+    let peak_hl = record::peak_hl(file, net) as u32;
+    if peak_hl <= peak_lh {
+        let lh = Pulse {
+            peak: peak_lh,
+            rise,
+            fall,
+            rising,
+            falling,
+        };
+        edge::draw_edges(row, lh, peak_hl, codes, seen, edge::LH_BIT, delay, last);
+        return;
+    }
+    let hl = Pulse {
+        peak: peak_hl,
+        rise,
+        fall,
+        rising,
+        falling,
+    };
+    edge::draw_edges(row, hl, peak_lh, codes, seen, edge::HL_BIT, delay, last);
+}
+
+// A gate's current added to the sheet. Past tick `last` the gate has no transition. A gate without transitions adds nothing.
+pub fn draw_gate(file: &[u8], net: Net, codes: &[u8], last: usize, sheet: &mut [u32])
+    requires { ⌜ Drawable (now file) (net .0) (now codes) last (now sheet) ⌝ }
+    ensures { λ _. ⌜ Drawn (now (file .entry)) (net .0) (now (codes .entry)) (now (sheet .entry)) (now (sheet .exit)) ⌝ }
+{
+    let delay = record::delay(file, net);
+    let seen = edge::seen(codes, delay, last + 1);
+    if seen & edge::BOTH_BITS == 0 {
+        return;
+    }
+    let mut row = [0u32; 512];
+    draw_row(file, net, codes, last, seen, &mut row);
+    let end = quiet_from(
+        last,
+        delay,
+        record::rise(file, net),
+        record::fall(file, net),
+    );
+    sheet::add_row(sheet, 512 * record::contact(file, net), &row, end);
+}

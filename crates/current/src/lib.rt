@@ -1,0 +1,11 @@
+// A gate's current drawn into the sheet, and the drop of a sheet.
+mod draw;
+mod drop;
+mod edge;
+mod gate;
+mod level;
+mod sheet;
+
+pub use drop::greatest_drop;
+pub use gate::draw_gate;
+pub use sheet::clear;

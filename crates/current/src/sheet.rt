@@ -1,0 +1,29 @@
+// The words of a sheet: a row of 512 ticks for each of 16 contacts.
+ghost use mathlib.Core.Path.{_≡_};
+ghost use Prim.Native.Nat.{_+_};
+ghost use lib.ListN.{length};
+ghost use Rattle.current.specs.Words.{Written, withRow, RowFits, Cleared};
+
+// A sheet with no current.
+pub fn clear(sheet: &mut [u32])
+    requires { ⌜ length (now sheet) ≡ 8192 ⌝ }
+    ensures { λ _. ⌜ Cleared (now (sheet .exit)) ⌝ }
+{
+    let mut i: usize = 0;
+    while i < 8192 {
+        sheet[i] = 0;
+        i += 1;
+    }
+}
+
+// A row added to words from place `start` on, n words of it.
+pub fn add_row(words: &mut [u32], start: usize, row: &[u32], n: usize)
+    requires { ⌜ RowFits (now words) start (now row) n ⌝ }
+    ensures { λ _. ⌜ Written start (start + n) (withRow (now (words .entry)) start (now (row .entry))) (now (words .entry)) (now (words .exit)) ⌝ }
+{
+    let mut t: usize = 0;
+    while t < n {
+        words[start + t] = words[start + t] + row[t];
+        t += 1;
+    }
+}
