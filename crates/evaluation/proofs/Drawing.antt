@@ -1,0 +1,228 @@
+-- The gates drawn one after the other make the sheet of the definitions.
+-- Assumes nothing.
+use Prim.Native.Nat.{ℕ, _+_, _*_, _/_, _%_, _≤_, _<_}
+use mathlib.Core.Bool.{true, cond}
+use mathlib.Core.List.{List, [], _∷_, _++_, map}
+use mathlib.Core.Path.{_≡_, refl, ap, sym, subst, _∙_}
+use native.Mathlib.Omega.{arith}
+use lib.Dec.{eqb, ltb}
+use lib.ListN.{length, getD, List·getD-map}
+use borrow.Author.Count.{below-more}
+use borrow.Author.Tests.{eqb-true, eqb-false, ltb-true, ltb-false}
+use borrow.Table.Steps.{cases}
+use Rattle.laws.specs.Below.{sumBelow}
+use Rattle.laws.specs.Turn.{inTurn, listBelow}
+use Rattle.laws.proofs.Below.{max-same, sum-next, sum-within}
+use Rattle.laws.proofs.Turn.{turn-next, turn-is, list-at, list-long, list-next, list-same}
+use Rattle.excitation.specs.Excitation.{l, hl, lh}
+use Rattle.excitation.specs.UncertaintySet.{UncertaintySet, member, decode, empty, single, Held}
+use Rattle.block.specs.Accepted.{AcceptedFile, GateRecord}
+use Rattle.block.specs.Block.{latestPin, arrivalFrom, arrivals, arrival}
+use Rattle.block.specs.Record.{File, netCount, contact, delay, pinCount, pin, isInput}
+use Rattle.block.proofs.Accepted.{has-record, arrival-at}
+use Rattle.fill.specs.Codes.{setsOf}
+use Rattle.waveform.specs.Rows.{waveformIn, waveformsIn, arrivalIn, arrivalsIn, lastIn, latestIn, SettledRow, Ready, GateMade}
+use Rattle.waveform.specs.Waveform.{envelope, inputWaveform, gateWaveform, netWaveform, waveforms}
+use Rattle.waveform.proofs.Settles.{Settles, firstTick, waveformOf, waveform-at, net-settles}
+use Rattle.waveform.proofs.Waveforms.{net-input, net-gate}
+use Rattle.current.specs.Current.{Transitions, ticksWhere, gateCurrent, part, contactCurrent, sheetWords, transitionsOf, sheetOf}
+use Rattle.current.specs.Drawing.{transitionsIn, Drawable, Drawn}
+use Rattle.current.specs.Words.{Cleared}
+use Rattle.current.proofs.Contacts.{part-of-gate, part-of-input}
+use Rattle.current.proofs.Sheets.{sheet-is}
+use Rattle.evaluation.specs.Evaluation.{setsIn, HasRows, InputsMade}
+use Rattle.evaluation.proofs.Rows.{has-row, waveform-kept, arrival-kept, settled-kept}
+
+-- The transitions of every net.
+abbrev pub transitionsFrom : File → ℕ → List UncertaintySet → List Transitions
+transitionsFrom file hops sets = map (transitionsOf (envelope hops)) (waveforms (envelope hops) file sets (netCount file))
+
+-- The buffers once the first n nets are evaluated.
+pub record Evaluating (file : File) (hops : ℕ) (sets : List UncertaintySet) (n : ℕ) (work words : List ℕ) : Type 0 where
+  pub waves : waveformsIn work n ≡ waveforms (envelope hops) file sets n
+  pub times : arrivalsIn work n ≡ arrivals file n
+  pub settled : (net : ℕ) → net < n → SettledRow work net
+  pub long : length words ≡ 8192
+  pub at : (i : ℕ) → i < 8192 → getD words i 0 ≡ sumBelow n (part file (transitionsFrom file hops sets) (i / 512) (i % 512))
+  pub most : (i : ℕ) → getD words i 0 ≤ n * 65535
+
+module _ (file : File) (nets inputs : ℕ) (accepted : AcceptedFile file nets inputs) (hops : ℕ) (sets : List UncertaintySet) where
+  abbrev transitions : List Transitions
+  transitions = transitionsFrom file hops sets
+
+  pub net-transitions : (net : ℕ) → net < nets
+      → getD transitions net (record { rises = []; falls = [] }) ≡ transitionsOf (envelope hops) (waveformOf file nets inputs accepted hops sets net)
+  unfolding transitionsOf ticksWhere
+  net-transitions net h =
+      List·getD-map (transitionsOf (envelope hops)) (waveforms (envelope hops) file sets (netCount file)) net (record { before = empty; ticks = [] })
+      ∙ ap (transitionsOf (envelope hops)) (waveform-at file nets inputs accepted hops sets (netCount file) net _ (rw (accepted .net-count) h))
+
+  module _ {n : ℕ} {work words : List ℕ} (done : Evaluating file hops sets n work words) (few : n ≤ nets) where
+    time-in : (m : ℕ) → m < n → arrivalIn work m ≡ arrival file m
+    unfolding arrivalsIn
+    time-in m h = sym (list-at n (arrivalIn work) m 0 h) ∙ ap (λ ts. getD ts m 0) (done .times) ∙ arrival-at file n m h
+
+    module _ (gate : GateRecord file n) (here : n < nets) where
+      latest-in : latestIn file work n ≡ latestPin file (arrivals file n) n
+      unfolding latestIn latestPin
+      latest-in =
+          max-same (pinCount file n) _ _
+          (λ p h. let b = gate .pin-below p h in time-in (pin file n p) b ∙ sym (arrival-at file n (pin file n p) b))
+
+      arrival-is : latestIn file work n + delay file n ≡ arrival file n
+      unfolding arrivalFrom
+      arrival-is = rw (gate .gate, latest-in) refl
+
+      -- The next gate can be made.
+      pub next-ready : HasRows work nets → Ready file n work
+      next-ready rows = record {
+        has-record = has-record file nets inputs n accepted here;
+        gate = gate;
+        room = has-row n rows here;
+        settled = λ p h. done .settled (pin file n p) (gate .pin-below p h);
+        in-time = (let a = accepted .arrives n here in omega (arith, arrival-is, a));
+      }
+
+      module _ {after codes : List ℕ} (made : GateMade file n hops work after codes) where
+        waves-kept : waveformsIn after n ≡ waveformsIn work n
+        unfolding waveformsIn
+        waves-kept = list-same n (waveformIn after) (waveformIn work) (waveformIn work 0) (λ m h. waveform-kept (made .others) m (λ e. omega arith))
+
+        times-kept : arrivalsIn after n ≡ arrivalsIn work n
+        unfolding arrivalsIn
+        times-kept = list-same n (arrivalIn after) (arrivalIn work) 0 (λ m h. arrival-kept (made .others) m (λ e. omega arith))
+
+        made-is : waveformIn after n ≡ netWaveform (envelope hops) file sets (waveforms (envelope hops) file sets n) n
+        made-is =
+            made .waveform ∙ ap (λ ws. gateWaveform (envelope hops) file ws n) (done .waves)
+            ∙ sym (net-gate (envelope hops) file sets (waveforms (envelope hops) file sets n) n (gate .gate))
+
+        waves-next : waveformsIn after (n + 1) ≡ waveforms (envelope hops) file sets (n + 1)
+        unfolding waveformsIn waveforms
+        waves-next =
+            list-next n (waveformIn after) ∙ ap (λ ws. ws ++ (waveformIn after n ∷ [])) (waves-kept ∙ done .waves)
+            ∙ ap (λ w. waveforms (envelope hops) file sets n ++ (w ∷ [])) made-is
+            ∙ sym (turn-next (netWaveform (envelope hops) file sets) n)
+
+        times-next : arrivalsIn after (n + 1) ≡ arrivals file (n + 1)
+        unfolding arrivalsIn arrivals
+        times-next =
+            list-next n (arrivalIn after) ∙ ap (λ ts. ts ++ (arrivalIn after n ∷ [])) (times-kept ∙ done .times)
+            ∙ ap (λ t. arrivals file n ++ (t ∷ [])) (made .arrives ∙ arrival-is) ∙ sym (turn-next (arrivalFrom file) n)
+
+        ticks-are : setsOf codes ≡ waveformOf file nets inputs accepted hops sets n .ticks
+        unfolding waveformOf
+        ticks-are = made .ticks ∙ ap (λ w. w .ticks) made-is
+
+        set-in : (t : ℕ) → decode (getD codes t 0) ≡ getD (waveformIn after n .ticks) t empty
+        unfolding setsOf decode
+        set-in t = sym (List·getD-map decode codes t 0) ∙ ap (λ xs. getD xs t (decode 0)) (made .ticks)
+
+        set-at : (t : ℕ) → decode (getD codes t 0) ≡ getD (waveformOf file nets inputs accepted hops sets n .ticks) t empty
+        unfolding waveformOf
+        set-at t = set-in t ∙ ap (λ w. getD (w .ticks) t empty) made-is
+
+        settles : Settles (firstTick file n) (arrival file n) (waveformOf file nets inputs accepted hops sets n)
+        settles = net-settles file nets inputs accepted hops sets n here
+
+        early : (t : ℕ) → t < delay file n → Held (decode (getD codes t 0))
+        early t h = subst Held (sym (set-at t)) (settles .early t (rw (gate .gate) h))
+
+        late : (t : ℕ) → arrival file n < t → Held (decode (getD codes t 0))
+        late t h = subst Held (sym (set-at t)) (settles .late t h)
+
+        -- After the tick from which on its sets are the same it has the set of tick 255, past its arrival.
+        last-set : (t : ℕ) → lastIn after n < t → t < 256 → decode (getD codes t 0) ≡ decode (getD codes 255 0)
+        last-set t h q = set-in t ∙ made .settled .settled .same t h q ∙ sym (set-in 255)
+
+        -- A gate that arrives at tick 255 has no tick after it.
+        later : (last t : ℕ) → last ≡ lastIn after n → last < t → Held (decode (getD codes t 0))
+        later last t e h =
+            let arrives = accepted .arrives n here in
+            cases (ltb t 256)
+            (λ b. let q = ltb-true t 256 b in
+            cases (eqb (arrivalIn after n) 255)
+            (λ z. let end = made .at-end (eqb-true (arrivalIn after n) 255 z) in absurd (omega arith))
+            (λ z. let early : (arrivalIn after n ≡ 255 → ⊥) = eqb-false (arrivalIn after n) 255 z in
+            subst Held (sym (last-set t (omega arith) q)) (late 255 (omega (arith, made .arrives, arrival-is)))))
+            (λ b. let q = ltb-false t 256 b in late t (omega arith))
+
+        -- It can be drawn.
+        pub next-drawable : (last : ℕ) → last ≡ lastIn after n → Drawable file n codes last words
+        next-drawable last e = record {
+          has-record = has-record file nets inputs n accepted here;
+          gate = gate;
+          coded = made .coded;
+          in-time = (let arrives = accepted .arrives n here in omega (arith, made .settled .soon, made .arrives, arrival-is));
+          between = record {
+            no-rise-before = λ t h. early t h .no-lh;
+            no-fall-before = λ t h. early t h .no-hl;
+            no-rise-after = λ t h. later last t e h .no-lh;
+            no-fall-after = λ t h. later last t e h .no-hl;
+          };
+          long = done .long;
+          room = λ i. (let m = done .most i in let q = accepted .few-nets in omega arith);
+        }
+
+        transitions-are : transitionsIn codes ≡ getD transitions n (record { rises = []; falls = [] })
+        unfolding transitionsIn transitionsOf
+        transitions-are =
+            ap (λ xs. record { rises = ticksWhere (member lh) 0 xs; falls = ticksWhere (member hl) 0 xs }) ticks-are
+            ∙ sym (net-transitions n (omega arith))
+
+        part-is : (c t : ℕ) → cond (eqb (contact file n) c) (gateCurrent file n (transitionsIn codes) t) 0 ≡ part file transitions c t n
+        part-is c t =
+            ap (λ ts. cond (eqb (contact file n) c) (gateCurrent file n ts t) 0) transitions-are ∙ sym (part-of-gate file transitions c t n (gate .gate))
+
+        -- And then it is evaluated.
+        pub next-evaluated : {drawn : List ℕ} → Drawn file n codes words drawn → Evaluating file hops sets (n + 1) after drawn
+        next-evaluated drawn = record {
+          waves = waves-next;
+          times = times-next;
+          settled = below-more (SettledRow after) n (λ net h. settled-kept (made .others) net (λ e. omega arith) (done .settled net h)) (made .settled);
+          long = drawn .long;
+          at = λ i h. drawn .at i h ∙ rw (done .at i h, part-is (i / 512) (i % 512)) (sym (sum-next n (part file transitions (i / 512) (i % 512))));
+          most = λ i. (let a = drawn .most i in let b = done .most i in omega arith);
+        }
+
+  -- Every gate is evaluated: the sheet is the definition's.
+  pub all-evaluated : {work words : List ℕ} → Evaluating file hops sets nets work words → words ≡ sheetWords (sheetOf (envelope hops) file sets)
+  unfolding sheetOf contactCurrent
+  all-evaluated {work} {words} done =
+      sheet-is words (sheetOf (envelope hops) file sets) (done .long)
+      (λ i h. done .at i h ∙ ap (λ n. sumBelow n (part file transitions (i / 512) (i % 512))) (sym (accepted .net-count)))
+
+input-arrives : (file : File) (below : List ℕ) (net : ℕ) → isInput file net ≡ true → arrivalFrom file below net ≡ 0
+unfolding arrivalFrom
+input-arrives file below net e = rw e refl
+
+-- The inputs are evaluated: their waveforms are made, and the sheet is empty.
+module _ (file : File) (nets inputs : ℕ) (accepted : AcceptedFile file nets inputs) (hops : ℕ) (codes : List ℕ) where
+  abbrev sets : List UncertaintySet
+  sets = setsIn inputs codes
+
+  input-set : (net : ℕ) (d : UncertaintySet) → net < inputs → getD sets net d ≡ decode (getD codes net 0)
+  unfolding setsIn
+  input-set net d h = list-at inputs (λ net. decode (getD codes net 0)) net d h
+
+  inputs-quiet : (c t n : ℕ) → n ≤ inputs → sumBelow n (part file (transitionsFrom file hops sets) c t) ≡ 0
+  inputs-quiet c t n h =
+      let none = sum-within n (part file (transitionsFrom file hops sets) c t) 0
+      (λ net l. let e = part-of-input file (transitionsFrom file hops sets) c t net (accepted .input net (omega arith) .input) in omega arith) in
+      omega arith
+
+  pub inputs-evaluated : {given work words : List ℕ} → InputsMade inputs codes given work → Cleared words
+      → Evaluating file hops sets inputs work words
+  unfolding waveformsIn arrivalsIn waveforms arrivals
+  inputs-evaluated {given} {work} {words} made clear = record {
+    waves = turn-is (netWaveform (envelope hops) file sets) inputs (waveformIn work 0) (listBelow inputs (waveformIn work)) (list-long inputs (waveformIn work))
+        (λ net h. list-at inputs (waveformIn work) net _ h ∙ made .waveform net h hops
+        ∙ ap (inputWaveform (envelope hops) 0) (sym (input-set net (single l) h))
+        ∙ sym (net-input (envelope hops) file sets _ net (accepted .input net h .input)));
+    times = turn-is (arrivalFrom file) inputs 0 (listBelow inputs (arrivalIn work)) (list-long inputs (arrivalIn work))
+        (λ net h. list-at inputs (arrivalIn work) net 0 h ∙ made .arrives net h ∙ sym (input-arrives file (inTurn (arrivalFrom file) net) net (accepted .input net h .input)));
+    settled = made .settled;
+    long = clear .long;
+    at = λ i h. clear .at i ∙ sym (inputs-quiet (i / 512) (i % 512) inputs (omega arith));
+    most = λ i. omega (arith, clear .at i);
+  }

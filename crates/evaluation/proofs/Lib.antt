@@ -1,0 +1,4 @@
+pub mod Rows
+pub mod Drawing
+pub mod Quiet
+pub mod Operations

@@ -1,0 +1,63 @@
+-- Laws of the rows of a work buffer: those of other nets stay as one is written.
+-- Assumes nothing.
+use Prim.Native.Nat.{ℕ, _+_, _-_, _<_}
+use mathlib.Core.List.{List}
+use mathlib.Core.Path.{_≡_, refl, ap, _∙_}
+use native.Mathlib.Omega.{arith}
+use lib.Dec.{ltb}
+use lib.ListN.{getD}
+use borrow.Author.Count.{below-more}
+use borrow.Author.Tests.{ltb-true, ltb-false}
+use borrow.Table.Steps.{cases}
+use Rattle.laws.proofs.Turn.{list-same}
+use Rattle.excitation.specs.UncertaintySet.{decode, empty}
+use Rattle.waveform.specs.Rows.{codeIn, waveformIn, arrivalIn, lastIn, HasRow, SettledRow, OthersKept, InputMade}
+use Rattle.waveform.specs.Waveform.{envelope, inputWaveform}
+use Rattle.waveform.proofs.Waveforms.{waveform-is}
+use Rattle.evaluation.specs.Evaluation.{HasRows, InputsMade}
+
+pub has-row : {work : List ℕ} {nets : ℕ} (net : ℕ) → HasRows work nets → net < nets → HasRow work net
+has-row net rows h = record { whole = omega (arith, rows .whole); numbered = omega (arith, rows .numbered) }
+
+module _ {net : ℕ} {work after : List ℕ} (kept : OthersKept net work after) where
+  code-kept : (other t : ℕ) → (other ≡ net → ⊥) → t < 256 → codeIn after other t ≡ codeIn work other t
+  unfolding codeIn
+  code-kept other t n h =
+      cases (ltb t 128)
+      (λ b. let q = ltb-true t 128 b in rw (b, kept .kept other t n (omega arith)) refl)
+      (λ b. let q = ltb-false t 128 b in rw (b, kept .kept other (t - 128) n (omega arith)) refl)
+
+  pub waveform-kept : (other : ℕ) → (other ≡ net → ⊥) → waveformIn after other ≡ waveformIn work other
+  unfolding waveformIn
+  waveform-kept other n =
+      waveform-is _ _ (ap decode (kept .kept other 128 n (omega arith)))
+      (list-same 256 (λ t. decode (codeIn after other t)) (λ t. decode (codeIn work other t)) empty (λ t h. ap decode (code-kept other t n h)))
+
+  pub arrival-kept : (other : ℕ) → (other ≡ net → ⊥) → arrivalIn after other ≡ arrivalIn work other
+  arrival-kept other n = kept .kept other 129 n (omega arith)
+
+  pub settled-kept : (other : ℕ) → (other ≡ net → ⊥) → SettledRow work other → SettledRow after other
+  settled-kept other n s =
+      let last : lastIn after other ≡ lastIn work other = kept .kept other 130 n (omega arith) in
+      record {
+        soon = omega (arith, last, arrival-kept other n, s .soon);
+        settled = rw (last, waveform-kept other n) (s .settled);
+      }
+
+-- The inputs' waveforms, one after the other.
+
+pub inputs-none : (codes work : List ℕ) → InputsMade 0 codes work work
+inputs-none codes work = record { long = refl; waveform = λ net h. absurd (omega arith); arrives = λ net h. absurd (omega arith); settled = λ net h. absurd (omega arith) }
+
+pub inputs-next : (n : ℕ) (codes given work after : List ℕ) → InputsMade n codes given work → InputMade n 0 (getD codes n 0) work after
+    → InputsMade (n + 1) codes given after
+inputs-next n codes given work after made here = record {
+  long = here .others .long ∙ made .long;
+  waveform = below-more (λ net. (hops : ℕ) → waveformIn after net ≡ inputWaveform (envelope hops) 0 (decode (getD codes net 0))) n
+      (λ net h hops. waveform-kept (here .others) net (λ e. omega arith) ∙ made .waveform net h hops)
+      (here .waveform);
+  arrives = below-more (λ net. arrivalIn after net ≡ 0) n
+      (λ net h. arrival-kept (here .others) net (λ e. omega arith) ∙ made .arrives net h)
+      (here .arrives);
+  settled = below-more (SettledRow after) n (λ net h. settled-kept (here .others) net (λ e. omega arith) (made .settled net h)) (here .settled);
+}

@@ -1,0 +1,3 @@
+pub mod Evaluation
+pub mod Arguments
+pub mod Operation
