@@ -1,0 +1,3 @@
+pub mod Frame
+pub mod Outcomes
+pub mod Soundness
