@@ -6,6 +6,8 @@
  *
  * An answer is six numbers. answer[0] is 0 where the call was accepted. Else it is the refusal's number, answer[1]
  * is its place, the rest are 0, and no lent buffer but the answer was changed.
+ *
+ * A sheet is 16 rows of 512 ticks, contact 0 first, in microamperes.
  */
 #ifndef ZIMGURAV_H
 #define ZIMGURAV_H
@@ -19,6 +21,28 @@ extern "C" {
 
 /* Reads a block file, checks 1 to 10. Accepted: answer[1] nets, answer[2] inputs, then 0. */
 void zimgurav_read(const uint8_t *file, size_t file_length, uint64_t answer[6]);
+
+/* Writes a ceiling on the current of each contact at each tick into the sheet, checks 1 to 12 and 15.
+ * Accepted: answer[1] drop in nanovolts, answer[2] a tick after which every row of the sheet is 0, then 0.
+ */
+void zimgurav_envelope(
+    const uint8_t *file, size_t file_length,    /* the block file, 20 bytes a net */
+    uint64_t hop_limit,                         /* the most runs that a gate's sets keep for an excitation, 1 to 16 */
+    const uint16_t *table, size_t table_length, /* 16 resistances in milliohms for each of 1 to 16 bus nodes */
+    uint32_t *sheet, size_t sheet_length,       /* the sheet, 8,192 words */
+    uint8_t *work, size_t work_length,          /* at least 160 bytes a net; means nothing after an accepted call */
+    uint64_t answer[6]);
+
+/* Writes the current of each contact at each tick under one pattern into the sheet, checks 1 to 10, 12, 15 and 16.
+ * Accepted: answer[1] drop in nanovolts, answer[2] a tick after which every row of the sheet is 0, then 0.
+ */
+void zimgurav_simulate(
+    const uint8_t *file, size_t file_length,       /* the block file, 20 bytes a net */
+    const uint16_t *table, size_t table_length,    /* 16 resistances in milliohms for each of 1 to 16 bus nodes */
+    uint32_t *sheet, size_t sheet_length,          /* the sheet, 8,192 words */
+    const uint8_t *pattern, size_t pattern_length, /* 64 bytes, byte i for input net i: 0 l, 1 h, 2 hl, 3 lh */
+    uint8_t *work, size_t work_length,             /* at least 160 bytes a net; means nothing after an accepted call */
+    uint64_t answer[6]);
 
 #ifdef __cplusplus
 }

@@ -3,8 +3,8 @@
 use mathlib.Core.Path.{ap, _∙_}
 use borrow.Author.Needs.{needs}
 use Rattle.block.specs.Numbers.{readNumbers}
-use Rattle.zimgurav.proofs.zimgurav_read.Tie as tie
 use Rattle.zimgurav.proofs.zimgurav_read.Statement.{statement}
+use Rattle.zimgurav.proofs.zimgurav_read.Tie as tie
 
 read-requires : tie.Need-read-requires
 read-requires c κs = search needs

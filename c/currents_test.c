@@ -1,0 +1,123 @@
+/* Envelope and Simulate through the C header: block F of document 01, and a refusal of each. */
+#include <inttypes.h>
+#include <stdio.h>
+#include <string.h>
+
+#include "zimgurav.h"
+
+enum { NUMBERS = 6, RECORD = 20, NETS = 4, CONTACTS = 16, TICKS = 512, WORDS = CONTACTS * TICKS, PATTERN = 64 };
+
+/* Net 2 is NOT of net 0 at contact 0, net 3 NAND of nets 1 and 2 at contact 1. */
+static const uint8_t block_f[NETS * RECORD] = {
+    1, 0, 0, 0, 0, 0, 0, 0, 0, 0, 0, 0, 0, 0, 0,  0, 0,  0, 15, 0,
+    1, 0, 0, 0, 0, 0, 0, 0, 0, 0, 0, 0, 0, 0, 0,  0, 0,  0, 15, 0,
+    8, 0, 1, 1, 0, 0, 0, 0, 0, 0, 0, 0, 1, 2, 10, 0, 20, 0, 0,  0,
+    3, 1, 2, 2, 1, 0, 2, 0, 0, 0, 0, 0, 2, 2, 30, 0, 31, 0, 0,  0,
+};
+
+/* One bus node, with resistances to contacts 0 and 1. */
+static const uint16_t table[CONTACTS] = {2, 1};
+
+/* What a call is lent to write, and the answer. */
+struct lent {
+    uint32_t sheet[WORDS];
+    uint8_t work[160 * NETS];
+    uint64_t answer[NUMBERS];
+};
+
+static struct lent lent, untouched;
+
+/* Fills everything that a call may write. */
+static void prepare(void)
+{
+    memset(&untouched, 0xEE, sizeof untouched);
+    lent = untouched;
+}
+
+/* Returns how many of the six numbers are not as expected. */
+static int check_answer(const char *name, const uint64_t expected[NUMBERS])
+{
+    int wrong = 0;
+
+    for (int i = 0; i < NUMBERS; i++) {
+        if (lent.answer[i] != expected[i]) {
+            fprintf(stderr, "%s: answer[%d] is %" PRIu64 ", not %" PRIu64 "\n", name, i, lent.answer[i], expected[i]);
+            wrong++;
+        }
+    }
+    return wrong;
+}
+
+/* Returns how many words of the sheet are not as expected: the first 8 ticks of contacts 0 and 1, and 0 elsewhere. */
+static int check_sheet(const char *name, const uint32_t first[2][8])
+{
+    int wrong = 0;
+
+    for (int contact = 0; contact < CONTACTS; contact++) {
+        for (int tick = 0; tick < TICKS; tick++) {
+            const uint32_t expected = contact < 2 && tick < 8 ? first[contact][tick] : 0;
+            const uint32_t current = lent.sheet[TICKS * contact + tick];
+
+            if (current != expected) {
+                fprintf(stderr, "%s: %" PRIu32 " at contact %d, tick %d, not %" PRIu32 "\n", name, current, contact,
+                        tick, expected);
+                wrong++;
+            }
+        }
+    }
+    return wrong;
+}
+
+/* Returns 1 if a refused call has changed the sheet or the work buffer. */
+static int check_untouched(const char *name)
+{
+    if (memcmp(lent.sheet, untouched.sheet, sizeof lent.sheet) != 0 ||
+        memcmp(lent.work, untouched.work, sizeof lent.work) != 0) {
+        fprintf(stderr, "%s: a buffer was changed\n", name);
+        return 1;
+    }
+    return 0;
+}
+
+static void envelope(uint64_t hop_limit)
+{
+    prepare();
+    zimgurav_envelope(block_f, sizeof block_f, hop_limit, table, CONTACTS, lent.sheet, WORDS, lent.work,
+                      sizeof lent.work, lent.answer);
+}
+
+static void simulate(const uint8_t pattern[PATTERN])
+{
+    prepare();
+    zimgurav_simulate(block_f, sizeof block_f, table, CONTACTS, lent.sheet, WORDS, pattern, PATTERN, lent.work,
+                      sizeof lent.work, lent.answer);
+}
+
+int main(void)
+{
+    const uint64_t currents[NUMBERS] = {0, 55, 5};
+    const uint64_t hop_limit[NUMBERS] = {11};
+    const uint64_t pattern_byte[NUMBERS] = {16, 1};
+    const uint32_t ceiling[2][8] = {{0, 20, 10, 0}, {0, 15, 31, 31, 15, 0}};
+    const uint32_t both_rise[2][8] = {{0, 20, 10, 0}, {0, 15, 31, 30, 15}};
+    uint8_t pattern[PATTERN] = {3, 3};
+    int wrong = 0;
+
+    envelope(10);
+    wrong += check_answer("envelope", currents);
+    wrong += check_sheet("envelope", ceiling);
+
+    envelope(17);
+    wrong += check_answer("envelope, 17 hops", hop_limit);
+    wrong += check_untouched("envelope, 17 hops");
+
+    simulate(pattern);
+    wrong += check_answer("simulate, both lh", currents);
+    wrong += check_sheet("simulate, both lh", both_rise);
+
+    pattern[1] = 4;
+    simulate(pattern);
+    wrong += check_answer("simulate, byte 4", pattern_byte);
+    wrong += check_untouched("simulate, byte 4");
+    return wrong != 0;
+}
