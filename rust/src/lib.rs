@@ -16,7 +16,16 @@ pub struct Counts {
     pub inputs: u64,
 }
 
-/// Why a call was refused.
+/// What an accepted Envelope or Simulate returns beside its sheet.
+#[derive(Clone, Copy, Debug, PartialEq, Eq)]
+pub struct Currents {
+    /// The greatest drop of a bus node at a tick, in nanovolts.
+    pub drop: u64,
+    /// A tick after which every row of the sheet is 0.
+    pub quiet: u64,
+}
+
+/// Why a call was refused. No lent buffer was changed.
 #[derive(Clone, Copy, Debug, PartialEq, Eq)]
 pub struct Refusal {
     /// The number in document 01's list of refusals.
@@ -40,6 +49,82 @@ pub fn read(file: &[u8]) -> Result<Counts, Refusal> {
     unsafe { raw::zimgurav_read(file.as_ptr(), file.len(), &mut answer) };
     match answer {
         [0, nets, inputs, ..] => Ok(Counts { nets, inputs }),
+        [number, place, ..] => Err(Refusal { number, place }),
+    }
+}
+
+/// Writes a ceiling on the current of each contact at each tick into the sheet: checks 1 to 12
+/// and 15.
+///
+/// - `hop_limit`: the most runs of ticks that a gate's sets keep for an excitation, 1 to 16.
+/// - `table`: for each bus node the resistances, in milliohms, to the 16 contacts; 1 to 16 nodes.
+/// - `sheet`: 16 rows of 512 ticks, contact 0 first, in microamperes; 8,192 words.
+/// - `work`: at least 160 bytes a net. What an accepted call leaves there means nothing.
+pub fn envelope(
+    file: &[u8],
+    hop_limit: u64,
+    table: &[u16],
+    sheet: &mut [u32],
+    work: &mut [u8],
+) -> Result<Currents, Refusal> {
+    let mut answer = [0; 6];
+    // SAFETY: each pointer is good for its length, and slices that are lent to be changed, as
+    // the answer is, overlap no other.
+    unsafe {
+        raw::zimgurav_envelope(
+            file.as_ptr(),
+            file.len(),
+            hop_limit,
+            table.as_ptr(),
+            table.len(),
+            sheet.as_mut_ptr(),
+            sheet.len(),
+            work.as_mut_ptr(),
+            work.len(),
+            &mut answer,
+        );
+    }
+    currents(answer)
+}
+
+/// Writes the current of each contact at each tick under one pattern into the sheet: checks 1 to
+/// 10, 12, 15 and 16.
+///
+/// - `table`, `sheet`, `work`: as for [`envelope`].
+/// - `pattern`: 64 bytes, one for each input net, 0 l, 1 h, 2 hl, 3 lh; those past the inputs are
+///   not read.
+pub fn simulate(
+    file: &[u8],
+    table: &[u16],
+    sheet: &mut [u32],
+    pattern: &[u8],
+    work: &mut [u8],
+) -> Result<Currents, Refusal> {
+    let mut answer = [0; 6];
+    // SAFETY: each pointer is good for its length, and slices that are lent to be changed, as
+    // the answer is, overlap no other.
+    unsafe {
+        raw::zimgurav_simulate(
+            file.as_ptr(),
+            file.len(),
+            table.as_ptr(),
+            table.len(),
+            sheet.as_mut_ptr(),
+            sheet.len(),
+            pattern.as_ptr(),
+            pattern.len(),
+            work.as_mut_ptr(),
+            work.len(),
+            &mut answer,
+        );
+    }
+    currents(answer)
+}
+
+/// The answer of Envelope or Simulate.
+fn currents(answer: raw::Answer) -> Result<Currents, Refusal> {
+    match answer {
+        [0, drop, quiet, ..] => Ok(Currents { drop, quiet }),
         [number, place, ..] => Err(Refusal { number, place }),
     }
 }

@@ -14,4 +14,46 @@ extern "C" {
     /// `file` is not null and is good for reading `file_length` bytes, `answer` is aligned
     /// and good for writing, and the two do not overlap.
     pub fn zimgurav_read(file: *const u8, file_length: usize, answer: *mut Answer);
+
+    /// Writes the envelope of a block into the sheet. Accepted: 0, drop, quiet tick, then 0.
+    ///
+    /// # Safety
+    ///
+    /// `file` and `table` are not null and are good for reading as many elements as their lengths
+    /// say, `sheet` and `work` likewise for reading and writing, `answer` is good for writing, all
+    /// are aligned, and none that is written overlaps another.
+    pub fn zimgurav_envelope(
+        file: *const u8,
+        file_length: usize,
+        hop_limit: u64,
+        table: *const u16,
+        table_length: usize,
+        sheet: *mut u32,
+        sheet_length: usize,
+        work: *mut u8,
+        work_length: usize,
+        answer: *mut Answer,
+    );
+
+    /// Writes the currents of a block under a pattern into the sheet. Accepted: 0, drop, quiet
+    /// tick, then 0.
+    ///
+    /// # Safety
+    ///
+    /// `file`, `table` and `pattern` are not null and are good for reading as many elements as
+    /// their lengths say, `sheet` and `work` likewise for reading and writing, `answer` is good
+    /// for writing, all are aligned, and none that is written overlaps another.
+    pub fn zimgurav_simulate(
+        file: *const u8,
+        file_length: usize,
+        table: *const u16,
+        table_length: usize,
+        sheet: *mut u32,
+        sheet_length: usize,
+        pattern: *const u8,
+        pattern_length: usize,
+        work: *mut u8,
+        work_length: usize,
+        answer: *mut Answer,
+    );
 }

@@ -18,6 +18,7 @@ fn mixed() -> Vec<Record> {
         gates: 960,
         reach: 1024,
         delay: 6,
+        slope: 127,
     };
     shape.block(&mut Random::new(1))
 }

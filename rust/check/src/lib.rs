@@ -1,5 +1,7 @@
 //! What the proved library is held to: a second implementation of document 01 and blocks to compare the two on.
 
+pub mod implementation;
 pub mod kind;
+pub mod measure;
 pub mod sample;
 pub mod second;

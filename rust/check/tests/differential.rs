@@ -1,10 +1,14 @@
-//! The library against the second implementation on random and damaged files.
+//! The library against the second implementation on random and damaged files, and on random arguments.
 
-use check::sample::{damage, Random, Shape};
+use check::implementation::{Implementation, Operation, LIBRARY, SECOND};
+use check::sample::{damage, Arguments, Random, Record, Shape};
 use check::second;
-use zimgurav::{read, Counts, Refusal};
+use zimgurav::{read, Counts, Currents, Refusal};
 
 const FILES: usize = 240_000;
+
+/// How many calls of Envelope there are, and of Simulate.
+const CALLS: usize = 4_000;
 
 /// How many records a file has before it is damaged: mostly few, sometimes any number, sometimes
 /// about the limit of 1,024.
@@ -78,4 +82,111 @@ fn random_and_damaged_files() {
         reached.iter().all(|&times| times >= 2_000),
         "a refusal was reached too seldom: {reached:?}"
     );
+}
+
+/// A random block for Envelope and Simulate: mostly small, sometimes any, sometimes full.
+fn block_of_any_size(random: &mut Random) -> Vec<Record> {
+    let records = match random.below(32) {
+        0 => 1024,
+        1 | 2 => 1 + random.below(1024),
+        _ => 1 + random.below(100),
+    };
+    let shape = Shape::random(random, records);
+    shape.block(random)
+}
+
+/// Makes a call fail, mostly, in one of the ways that the arguments can be wrong.
+fn spoil(random: &mut Random, arguments: &mut Arguments) {
+    match random.below(8) {
+        0 => damage(random, &mut arguments.file),
+        1 => arguments.hop_limit = random.pick(&[0, 17, 1 << 32, u64::MAX]),
+        2 => arguments.table.truncate(random.pick(&[0, 1, 15, 17, 255])),
+        3 => arguments.sheet.resize(random.pick(&[0, 8191, 8193]), 1),
+        4 => arguments.pattern.resize(random.pick(&[0, 63, 65]), 1),
+        5 => arguments
+            .work
+            .truncate(random.below(8 * arguments.file.len() + 1)),
+        _ => {
+            let net = random.pick(&[0, 1, 5, 63]);
+            if let Some(byte) = arguments.pattern.get_mut(net) {
+                *byte = random.byte(0, 5);
+            }
+        }
+    }
+}
+
+/// Random accepted arguments, of which some are spoilt.
+fn random_arguments(random: &mut Random) -> Arguments {
+    let block = block_of_any_size(random);
+    let mut arguments = Arguments::random(random, &block);
+    while random.below(6) == 0 {
+        spoil(random, &mut arguments);
+    }
+    arguments
+}
+
+/// Makes a call in both implementations: the answers and all that was lent are the same, but for
+/// what an accepted call leaves in the work buffer. A refusal changes nothing.
+fn compare(call: Operation, arguments: &Arguments, turn: usize) -> Result<Currents, Refusal> {
+    let (mut library, mut second) = (arguments.clone(), arguments.clone());
+    let answer = call(&LIBRARY, &mut library);
+    assert_eq!(answer, call(&SECOND, &mut second), "call {turn}");
+    if answer.is_ok() {
+        library.work.clone_from(&second.work);
+        assert!(library == second, "the sheets differ, call {turn}");
+    } else {
+        assert!(library == *arguments, "a buffer was changed, call {turn}");
+    }
+    answer
+}
+
+/// Counts the accepted calls and the refusals by their numbers.
+fn count(reached: &mut [usize; 17], answer: Result<Currents, Refusal>) {
+    let number = answer.map_or_else(|refusal| refusal.number, |_| 0);
+    reached[number as usize] += 1;
+}
+
+#[test]
+fn random_envelopes() {
+    let mut random = Random::new(2);
+    let mut reached = [0; 17];
+    let mut hops_mattered = 0;
+    for turn in 0..CALLS {
+        let arguments = random_arguments(&mut random);
+        let answer = compare(Implementation::envelope, &arguments, turn);
+        count(&mut reached, answer);
+        if answer.is_ok() && turn % 8 == 0 {
+            let mut few = arguments.clone();
+            let mut many = arguments.clone();
+            many.hop_limit = 16;
+            SECOND.envelope(&mut few).expect("accepted");
+            SECOND.envelope(&mut many).expect("accepted");
+            hops_mattered += usize::from(few.sheet != many.sheet);
+        }
+    }
+    println!(
+        "accepted, then refusals 1 to 16: {reached:?}; hop limits mattered {hops_mattered} times"
+    );
+    for number in [0, 11, 12, 15] {
+        assert!(reached[number] >= 20, "reached too seldom: {reached:?}");
+    }
+    assert!(
+        hops_mattered >= 50,
+        "hop limits mattered {hops_mattered} times"
+    );
+}
+
+#[test]
+fn random_simulations() {
+    let mut random = Random::new(3);
+    let mut reached = [0; 17];
+    for turn in 0..CALLS {
+        let arguments = random_arguments(&mut random);
+        let answer = compare(Implementation::simulate, &arguments, turn);
+        count(&mut reached, answer);
+    }
+    println!("accepted, then refusals 1 to 16: {reached:?}");
+    for number in [0, 12, 15, 16] {
+        assert!(reached[number] >= 20, "reached too seldom: {reached:?}");
+    }
 }

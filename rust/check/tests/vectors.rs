@@ -3,10 +3,12 @@
 use std::fs;
 use std::path::{Path, PathBuf};
 
+use check::implementation::{Implementation, Operation, LIBRARY, SECOND};
+use check::sample::Arguments;
 use check::second;
-use zimgurav::{read, Counts, Refusal};
+use zimgurav::{read, Counts, Currents, Refusal};
 
-/// The vector files, and how many calls of Read each of them holds.
+/// The vector files, and how many calls of each operation each of them holds.
 const FILES: [(&str, usize); 5] = [
     ("arguments.txt", 70),
     ("capped.txt", 12),
@@ -43,11 +45,7 @@ impl<'a> Vector<'a> {
                 nets: decimal(nets),
                 inputs: decimal(inputs),
             }),
-            ["refused", number, place] => Err(Refusal {
-                number: decimal(number),
-                place: decimal(place),
-            }),
-            _ => panic!("no answer of read, {at}"),
+            _ => Err(self.refusal(at)),
         };
         let file = bytes(file);
         assert_eq!(read(&file), expected, "the library, {at}");
@@ -56,6 +54,70 @@ impl<'a> Vector<'a> {
             expected,
             "the second implementation, {at}"
         );
+    }
+
+    /// Calls Envelope in both implementations.
+    fn run_envelope(&self, at: &str) {
+        let [file, hop_limit, table, sheet_length, work_length] = self.arguments[..] else {
+            panic!("envelope takes five arguments, {at}");
+        };
+        let arguments = Arguments {
+            file: bytes(file),
+            hop_limit: decimal(hop_limit),
+            table: resistances(table),
+            sheet: vec![0xeeee_eeee; decimal(sheet_length) as usize],
+            pattern: Vec::new(),
+            work: vec![0xee; decimal(work_length) as usize],
+        };
+        self.run_currents(&arguments, Implementation::envelope, at);
+    }
+
+    /// Calls Simulate in both implementations.
+    fn run_simulate(&self, at: &str) {
+        let [file, table, pattern, sheet_length, work_length] = self.arguments[..] else {
+            panic!("simulate takes five arguments, {at}");
+        };
+        let arguments = Arguments {
+            file: bytes(file),
+            hop_limit: 0,
+            table: resistances(table),
+            sheet: vec![0xeeee_eeee; decimal(sheet_length) as usize],
+            pattern: bytes(pattern),
+            work: vec![0xee; decimal(work_length) as usize],
+        };
+        self.run_currents(&arguments, Implementation::simulate, at);
+    }
+
+    /// Makes a call in both implementations and compares the answer and the sheet with the line's
+    /// result. A refusal leaves everything as it was.
+    fn run_currents(&self, arguments: &Arguments, call: Operation, at: &str) {
+        for implementation in [LIBRARY, SECOND] {
+            let name = implementation.name;
+            let mut lent = arguments.clone();
+            let answer = call(&implementation, &mut lent);
+            if let ["ok", drop, quiet, hash] = self.result[..] {
+                let expected = Currents {
+                    drop: decimal(drop),
+                    quiet: decimal(quiet),
+                };
+                assert_eq!(answer, Ok(expected), "{name}, {at}");
+                assert_eq!(sheet_hash(&lent.sheet), hash, "{name}'s sheet, {at}");
+            } else {
+                assert_eq!(answer, Err(self.refusal(at)), "{name}, {at}");
+                assert!(lent == *arguments, "{name} changed a buffer, {at}");
+            }
+        }
+    }
+
+    /// The refusal that is the line's result.
+    fn refusal(&self, at: &str) -> Refusal {
+        let ["refused", number, place] = self.result[..] else {
+            panic!("no answer of {}, {at}", self.operation);
+        };
+        Refusal {
+            number: decimal(number),
+            place: decimal(place),
+        }
     }
 }
 
@@ -81,34 +143,70 @@ fn digit(character: u8) -> u8 {
     value.expect("a hexadecimal digit") as u8
 }
 
+/// The resistances of a hexadecimal word, low byte first.
+fn resistances(word: &str) -> Vec<u16> {
+    let bytes = bytes(word);
+    let (pairs, rest) = bytes.as_chunks::<2>();
+    assert!(rest.is_empty(), "half a resistance");
+    pairs.iter().copied().map(u16::from_le_bytes).collect()
+}
+
+/// The 64-bit FNV-1a hash of the sheet's words as bytes, low byte first.
+fn sheet_hash(sheet: &[u32]) -> String {
+    let mut hash = 0xcbf2_9ce4_8422_2325_u64;
+    for byte in sheet.iter().flat_map(|word| word.to_le_bytes()) {
+        hash = (hash ^ u64::from(byte)).wrapping_mul(0x0000_0100_0000_01b3);
+    }
+    format!("{hash:016x}")
+}
+
 /// The folder of the vector files.
 fn folder() -> PathBuf {
     Path::new(env!("CARGO_MANIFEST_DIR")).join("tests/vectors")
 }
 
-/// Runs the read lines of a file and answers how many there were.
-fn run(name: &str) -> usize {
-    let text = fs::read_to_string(folder().join(name)).expect("a vector file");
-    let mut reads = 0;
-    for (index, line) in text.lines().enumerate() {
-        let at = format!("line {} of {name}", index + 1);
-        let vector = Vector::parse(line);
-        match vector.operation {
-            "read" => {
-                vector.run_read(&at);
-                reads += 1;
+/// Runs an operation's lines of each file.
+fn run(operation: &str, call: impl Fn(&Vector, &str)) {
+    for (name, lines) in FILES {
+        let text = fs::read_to_string(folder().join(name)).expect("a vector file");
+        let mut run = 0;
+        for (index, line) in text.lines().enumerate() {
+            let vector = Vector::parse(line);
+            if vector.operation == operation {
+                call(&vector, &format!("line {} of {name}", index + 1));
+                run += 1;
             }
-            "envelope" | "simulate" | "search" => {}
-            unknown => panic!("operation {unknown}, {at}"),
         }
+        assert_eq!(run, lines, "{operation} lines of {name}");
     }
-    reads
 }
 
 #[test]
 fn every_read_line() {
-    for (name, reads) in FILES {
-        assert_eq!(run(name), reads, "read lines of {name}");
+    run("read", |vector, at| vector.run_read(at));
+}
+
+#[test]
+fn every_envelope_line() {
+    run("envelope", |vector, at| vector.run_envelope(at));
+}
+
+#[test]
+fn every_simulate_line() {
+    run("simulate", |vector, at| vector.run_simulate(at));
+}
+
+/// Search is not there yet: its lines are skipped.
+#[test]
+fn every_search_line_is_skipped() {
+    run("search", |_, _| {});
+}
+
+#[test]
+fn no_line_is_left_out() {
+    for (name, lines) in FILES {
+        let text = fs::read_to_string(folder().join(name)).expect("a vector file");
+        assert_eq!(text.lines().count(), 4 * lines, "lines of {name}");
     }
 }
 

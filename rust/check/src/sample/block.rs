@@ -38,6 +38,8 @@ pub struct Shape {
     pub reach: usize,
     /// The greatest delay, 1 to 63.
     pub delay: u8,
+    /// The greatest rise and fall, 1 to 127. The smaller, the more of a pulse is seen beside others.
+    pub slope: u8,
 }
 
 impl Shape {
@@ -51,6 +53,7 @@ impl Shape {
             gates: records - inputs,
             reach: random.pick(&[1, 2, 8, 64, 1024]),
             delay: random.pick(&[1, 6, 63]),
+            slope: random.pick(&[1, 4, 127]),
         }
     }
 
@@ -90,9 +93,12 @@ impl Shape {
         let delay = random.byte(1, self.delay.min(255 - latest));
         record[1] = random.byte(0, 15);
         record[2] = delay;
-        record[12] = random.byte(1, 127);
-        record[13] = random.byte(1, 127);
-        record[14..18].copy_from_slice(&random.bits().to_le_bytes()[..4]);
+        record[12] = random.byte(1, self.slope);
+        record[13] = random.byte(1, self.slope);
+        for peak in record[14..18].chunks_exact_mut(2) {
+            let any = random.bits() as u16;
+            peak.copy_from_slice(&random.pick(&[0, 65_535, any, any]).to_le_bytes());
+        }
         (record, latest + delay)
     }
 }

@@ -1,9 +1,12 @@
-//! Block files to test and measure with: records byte by byte, random valid blocks, and damage.
+//! What to test and measure with: records byte by byte, random valid blocks, damage to files, and the
+//! arguments of a call.
 
+mod arguments;
 mod block;
 mod damage;
 mod random;
 
+pub use arguments::{allowed, Arguments};
 pub use block::{gate, input, Record, Shape};
 pub use damage::damage;
 pub use random::Random;

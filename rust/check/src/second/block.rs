@@ -1,4 +1,5 @@
-//! One record of the block file of document 01, taken apart into its fields.
+//! The records of the block file of document 01, taken apart into their fields, and
+//! the arrivals of their nets.
 //!
 //! A record is 20 bytes. Nothing is checked here: a field holds whatever its
 //! bytes say, and the refusals are left to the reader.
@@ -83,4 +84,24 @@ impl Record {
 /// byte first.
 fn two_bytes(bytes: &[u8; RECORD_BYTES], at: usize) -> u16 {
     u16::from_le_bytes([bytes[at], bytes[at + 1]])
+}
+
+/// The records of a file, by net number.
+pub fn records(file: &[u8]) -> Vec<Record> {
+    let (records, _) = file.as_chunks::<RECORD_BYTES>();
+    records.iter().map(Record::parse).collect()
+}
+
+/// Arrival: 0 for an input; for a gate the greatest arrival of its pins plus D.
+///
+/// The record's used pins are nets whose arrivals are given, by net number.
+pub fn arrival(record: &Record, arrivals: &[u16]) -> u16 {
+    if record.is_input() {
+        return 0;
+    }
+    let mut greatest = 0;
+    for pin in record.used_pins() {
+        greatest = greatest.max(arrivals[usize::from(pin)]);
+    }
+    greatest + u16::from(record.delay)
 }

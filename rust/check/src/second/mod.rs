@@ -1,8 +1,17 @@
 //! The second implementation of document 01, written from the paper alone and for obviousness.
 //!
-//! The proved library is tested against it, and its time is the yardstick of the library's.
+//! The proved library is tested against it, and timed beside it.
 
+mod arguments;
 mod block;
+mod current;
+mod envelope;
+mod excitation;
+mod fill;
 mod read;
+mod simulate;
+mod waveform;
 
+pub use envelope::envelope;
 pub use read::read;
+pub use simulate::simulate;

@@ -5,7 +5,7 @@
 //! 10 made on one record before the next. Each check is one function that says
 //! whether its refusal applies; the functions stand in the order of document 01.
 
-use super::block::{Record, RECORD_BYTES};
+use super::block::{arrival, Record, RECORD_BYTES};
 use crate::kind;
 use zimgurav::{Counts, Refusal};
 
@@ -41,7 +41,7 @@ pub fn read(file: &[u8]) -> Result<Counts, Refusal> {
     for (net, bytes) in records.iter().enumerate() {
         let record = Record::parse(bytes);
         check_record(&record, net, &before)?;
-        before.arrivals[net] = arrival(&record, &before);
+        before.arrivals[net] = arrival(&record, &before.arrivals);
         if record.is_input() {
             before.inputs += 1;
         } else {
@@ -74,7 +74,7 @@ fn check_record(record: &Record, net: usize, before: &Before) -> Result<(), Refu
 }
 
 /// Returns the refusal of this number and place if something is wrong.
-fn refuse_if(wrong: bool, number: u64, place: u64) -> Result<(), Refusal> {
+pub fn refuse_if(wrong: bool, number: u64, place: u64) -> Result<(), Refusal> {
     if wrong {
         Err(Refusal { number, place })
     } else {
@@ -164,19 +164,5 @@ fn value_is_outside_its_range(record: &Record) -> bool {
 
 /// Refusal 10: The arrival exceeds 255.
 fn arrival_exceeds_255(record: &Record, before: &Before) -> bool {
-    arrival(record, before) > LATEST_ARRIVAL
-}
-
-/// Arrival: 0 for an input; for a gate the greatest arrival of its pins plus D.
-///
-/// The record has passed checks 4 to 9, so its pins are nets before it.
-fn arrival(record: &Record, before: &Before) -> u16 {
-    if record.is_input() {
-        return 0;
-    }
-    let mut greatest = 0;
-    for pin in record.used_pins() {
-        greatest = greatest.max(before.arrivals[usize::from(pin)]);
-    }
-    greatest + u16::from(record.delay)
+    arrival(record, &before.arrivals) > LATEST_ARRIVAL
 }

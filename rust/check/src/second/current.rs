@@ -1,0 +1,148 @@
+//! Currents: pulses, the sheet, the drop and the quiet tick.
+
+use super::block::{arrival, Record};
+use super::excitation::{Excitation, Signal};
+use super::waveform::Waveform;
+use zimgurav::Currents;
+
+/// How many contacts there are.
+const CONTACTS: usize = 16;
+
+/// How many ticks a row of the sheet has.
+const ROW_TICKS: usize = 512;
+
+/// How many words of 32 bits the sheet has: 16 rows of 512 ticks.
+pub const SHEET_WORDS: usize = CONTACTS * ROW_TICKS;
+
+/// The currents of one gate or one contact, tick by tick.
+type Row = [u32; ROW_TICKS];
+
+/// Writes the sheet that the waveforms give, and returns the drop and the quiet
+/// tick. The sheet has 16 rows of 512 ticks, contact 0 first.
+pub fn write_currents<S: Signal>(
+    records: &[Record],
+    waveforms: &[Waveform<S>],
+    table: &[u16],
+    sheet: &mut [u32],
+) -> Currents {
+    let contacts = contact_currents(records, waveforms);
+    for (place, contact) in sheet.chunks_exact_mut(ROW_TICKS).zip(&contacts) {
+        place.copy_from_slice(contact);
+    }
+    Currents {
+        drop: drop(&contacts, table),
+        quiet: quiet_tick(records),
+    }
+}
+
+/// A contact's current is the sum over its gates. Inputs draw none.
+fn contact_currents<S: Signal>(records: &[Record], waveforms: &[Waveform<S>]) -> Vec<Row> {
+    let mut contacts = vec![[0; ROW_TICKS]; CONTACTS];
+    for (record, waveform) in records.iter().zip(waveforms) {
+        if record.is_gate() {
+            let current = gate_current(record, waveform);
+            let contact = &mut contacts[usize::from(record.contact)];
+            for tick in 0..ROW_TICKS {
+                contact[tick] += current[tick];
+            }
+        }
+    }
+    contacts
+}
+
+/// A gate's current is the greatest of its pulses at that tick.
+///
+/// Each tick at which a gate has hl or lh gives a pulse, P being the peak for
+/// that edge; an envelope takes every hl or lh pulse that the gate's sets allow.
+/// A pulse starts at the transition tick minus D.
+fn gate_current<S: Signal>(gate: &Record, waveform: &Waveform<S>) -> Row {
+    let mut current = [0; ROW_TICKS];
+    for (edge, peak) in [
+        (Excitation::Hl, gate.peak_hl),
+        (Excitation::Lh, gate.peak_lh),
+    ] {
+        let pulse = pulse(peak, gate.rise, gate.fall);
+        for (tick, signal) in waveform.ticks.iter().enumerate() {
+            if signal.has(edge) {
+                let start = tick - usize::from(gate.delay);
+                for (k, &after_k_ticks) in pulse.iter().enumerate() {
+                    current[start + k] = after_k_ticks.max(current[start + k]);
+                }
+            }
+        }
+    }
+    current
+}
+
+/// A pulse, from its start until it is 0 for good: after k ticks it is
+/// floor(P × k / r) for k up to r, floor(P × (r + f − k) / f) up to r + f.
+fn pulse(peak: u16, rise: u8, fall: u8) -> Vec<u32> {
+    let (p, r, f) = (u32::from(peak), u32::from(rise), u32::from(fall));
+    let mut currents = Vec::new();
+    for k in 0..=r + f {
+        if k <= r {
+            currents.push(p * k / r);
+        } else {
+            currents.push(p * (r + f - k) / f);
+        }
+    }
+    currents
+}
+
+/// The drop, in nanovolts, is the greatest over nodes and ticks of the sum of
+/// resistance × current. The table has a row of 16 resistances per bus node.
+fn drop(contacts: &[Row], table: &[u16]) -> u64 {
+    let mut greatest = 0;
+    for node in table.chunks_exact(CONTACTS) {
+        for tick in 0..ROW_TICKS {
+            let mut sum = 0;
+            for (&resistance, contact) in node.iter().zip(contacts) {
+                sum += u64::from(resistance) * u64::from(contact[tick]);
+            }
+            greatest = greatest.max(sum);
+        }
+    }
+    greatest
+}
+
+/// The quiet tick: the greatest arrival − D + r + f of a gate, 0 without gates.
+fn quiet_tick(records: &[Record]) -> u64 {
+    let mut arrivals = Vec::new();
+    let mut quiet = 0;
+    for record in records {
+        let arrival = arrival(record, &arrivals);
+        arrivals.push(arrival);
+        if record.is_gate() {
+            let start = arrival - u16::from(record.delay);
+            let end = start + u16::from(record.rise) + u16::from(record.fall);
+            quiet = quiet.max(u64::from(end));
+        }
+    }
+    quiet
+}
+
+#[cfg(test)]
+mod tests {
+    use super::*;
+
+    /// P 31, r 2, f 2: 0, 15, 31, 15, 0.
+    #[test]
+    fn pulse_of_31() {
+        assert_eq!(pulse(31, 2, 2), [0, 15, 31, 15, 0]);
+    }
+
+    /// P 7, r 3: 0, 2, 4, 7.
+    #[test]
+    fn pulse_of_7() {
+        assert_eq!(pulse(7, 3, 1), [0, 2, 4, 7, 0]);
+        assert_eq!(pulse(7, 1, 3), [0, 7, 4, 2, 0]);
+    }
+
+    #[test]
+    fn pulse_at_the_limits() {
+        let longest = pulse(65_535, 127, 127);
+        assert_eq!(longest.len(), 255);
+        assert_eq!(longest[126..=128], [65_018, 65_535, 65_018]);
+        assert_eq!(pulse(0, 1, 1), [0, 0, 0]);
+    }
+}

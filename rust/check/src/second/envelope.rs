@@ -1,0 +1,49 @@
+//! Envelope: takes file, hop limit, table, sheet and work buffer, and returns
+//! sheet, drop and quiet tick, or the first refusal of document 01 that applies.
+
+use super::arguments::{check_hop_limit, check_sheet, check_table, check_work};
+use super::block::{records, Record};
+use super::current::write_currents;
+use super::excitation::UncertaintySet;
+use super::fill::fill;
+use super::read::read;
+use super::waveform::Waveform;
+use zimgurav::{Currents, Refusal};
+
+/// Writes the envelope of the file's block into the sheet and returns its drop
+/// and quiet tick. Of the work buffer only the size matters here.
+pub fn envelope(
+    file: &[u8],
+    hop_limit: u64,
+    table: &[u16],
+    sheet: &mut [u32],
+    work: &mut [u8],
+) -> Result<Currents, Refusal> {
+    let counts = read(file)?;
+    check_hop_limit(hop_limit)?;
+    check_table(table)?;
+    check_sheet(sheet)?;
+    check_work(work, counts)?;
+
+    let records = records(file);
+    let waveforms = filled_waveforms(&records, hop_limit);
+    Ok(write_currents(&records, &waveforms, table, sheet))
+}
+
+/// The sets of each net at each tick, by net number: an input's from byte 18, a
+/// gate's raw sets with their gaps filled. Ticks before 0 and input nets are
+/// never filled.
+fn filled_waveforms(records: &[Record], hop_limit: u64) -> Vec<Waveform<UncertaintySet>> {
+    let mut waveforms = Vec::new();
+    for record in records {
+        if record.is_input() {
+            let set = UncertaintySet::of_code(record.allowed);
+            waveforms.push(Waveform::of_input(set));
+        } else {
+            let mut waveform = Waveform::of_gate(record, &waveforms);
+            fill(&mut waveform.ticks, hop_limit);
+            waveforms.push(waveform);
+        }
+    }
+    waveforms
+}

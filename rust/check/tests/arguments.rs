@@ -1,0 +1,379 @@
+//! The refusals of the arguments of Envelope and Simulate, 11, 12, 15 and 16: at their edges, in their
+//! order, and after those of the file. A refusal leaves everything that was lent as it was.
+
+use check::implementation::{Implementation, Operation, LIBRARY, SECOND};
+use check::kind::{AND, BUF, NOT};
+use check::sample::{gate, input, Arguments, Record};
+use zimgurav::{raw, Refusal};
+
+const ENVELOPE: Operation = Implementation::envelope;
+const SIMULATE: Operation = Implementation::simulate;
+
+#[track_caller]
+fn accepted(call: Operation, arguments: &Arguments) {
+    for implementation in [LIBRARY, SECOND] {
+        let mut lent = arguments.clone();
+        let answer = call(&implementation, &mut lent);
+        assert!(answer.is_ok(), "{}: {answer:?}", implementation.name);
+    }
+}
+
+#[track_caller]
+fn refused(call: Operation, arguments: &Arguments, number: u64, place: u64) {
+    for implementation in [LIBRARY, SECOND] {
+        let name = implementation.name;
+        let mut lent = arguments.clone();
+        let answer = call(&implementation, &mut lent);
+        assert_eq!(answer, Err(Refusal { number, place }), "{name}");
+        assert!(lent.file == arguments.file, "{name} changed the file");
+        assert!(lent.table == arguments.table, "{name} changed the table");
+        assert!(lent.sheet == arguments.sheet, "{name} changed the sheet");
+        assert!(
+            lent.pattern == arguments.pattern,
+            "{name} changed the pattern"
+        );
+        assert!(
+            lent.work == arguments.work,
+            "{name} changed the work buffer"
+        );
+    }
+}
+
+/// Two inputs, the second never hl, and two gates that draw current.
+fn block() -> Vec<Record> {
+    let mut gates = [gate(NOT, &[0]), gate(AND, &[1, 2])];
+    for gate in &mut gates {
+        gate[14..18].fill(1);
+    }
+    vec![input(15), input(11), gates[0], gates[1]]
+}
+
+fn arguments() -> Arguments {
+    Arguments::new(&block())
+}
+
+mod edges {
+    use super::*;
+
+    #[test]
+    fn hop_limit() {
+        for hop_limit in 1..=16 {
+            let arguments = Arguments {
+                hop_limit,
+                ..arguments()
+            };
+            accepted(ENVELOPE, &arguments);
+        }
+        let wide = [1 << 8, 1 << 16, 1 << 32, 1 << 63].map(|power: u64| [power, power + 10]);
+        for hop_limit in wide.into_iter().flatten().chain([0, 17, 18, u64::MAX]) {
+            let arguments = Arguments {
+                hop_limit,
+                ..arguments()
+            };
+            refused(ENVELOPE, &arguments, 11, 0);
+            // Simulate has no hop limit.
+            accepted(SIMULATE, &arguments);
+        }
+    }
+
+    #[test]
+    fn table() {
+        for length in (0..=300).chain([512, 4096, 65_536, 65_552, 65_792]) {
+            let arguments = Arguments {
+                table: vec![3; length],
+                ..arguments()
+            };
+            let right = length % 16 == 0 && (16..=256).contains(&length);
+            for call in [ENVELOPE, SIMULATE] {
+                if right {
+                    accepted(call, &arguments);
+                } else {
+                    refused(call, &arguments, 12, 0);
+                }
+            }
+        }
+    }
+
+    #[test]
+    fn sheet() {
+        for length in [0, 1, 512, 8191, 8193, 8192 + 512, 16_384, 65_536 + 8192] {
+            let arguments = Arguments {
+                sheet: vec![7; length],
+                ..arguments()
+            };
+            refused(ENVELOPE, &arguments, 15, 1);
+            refused(SIMULATE, &arguments, 15, 1);
+        }
+    }
+
+    #[test]
+    fn pattern() {
+        for length in [0, 1, 2, 63, 65, 128, 256 + 64, 65_536 + 64] {
+            let arguments = Arguments {
+                pattern: vec![0; length],
+                ..arguments()
+            };
+            refused(SIMULATE, &arguments, 15, 2);
+            // Envelope has no pattern.
+            accepted(ENVELOPE, &arguments);
+        }
+    }
+
+    #[test]
+    fn work() {
+        for nets in [1, 2, 3, 410, 411, 1023, 1024] {
+            let mut block = vec![gate(BUF, &[0]); nets];
+            block[0] = input(15);
+            let least = 160 * nets;
+            for call in [ENVELOPE, SIMULATE] {
+                for length in [0, 1, 159, least / 2, least - 160, least - 1] {
+                    let arguments = Arguments {
+                        work: vec![7; length],
+                        ..Arguments::new(&block)
+                    };
+                    refused(call, &arguments, 15, 3);
+                }
+                for length in [least, least + 1, least + 7, 2 * least, 200_000] {
+                    let arguments = Arguments {
+                        work: vec![7; length],
+                        ..Arguments::new(&block)
+                    };
+                    accepted(call, &arguments);
+                }
+            }
+        }
+    }
+
+    /// Each byte with each set, at the first and at the last input.
+    #[test]
+    fn pattern_bytes() {
+        for inputs in [1, 2, 64] {
+            for allowed in 1..=15 {
+                let mut block = vec![input(15); inputs];
+                block[inputs - 1] = input(allowed);
+                let mut arguments = Arguments::new(&block);
+                for byte in [0, 1, 2, 3, 4, 5, 7, 8, 16, 128, 255] {
+                    arguments.pattern[inputs - 1] = byte;
+                    if byte < 4 && allowed & (1 << byte) != 0 {
+                        accepted(SIMULATE, &arguments);
+                    } else {
+                        refused(SIMULATE, &arguments, 16, inputs as u64 - 1);
+                    }
+                    // Envelope reads no pattern.
+                    accepted(ENVELOPE, &arguments);
+                }
+            }
+        }
+    }
+
+    /// The place is the lowest net with a bad byte.
+    #[test]
+    fn lowest_bad_pattern_byte() {
+        let mut arguments = Arguments::new(&[input(1); 64]);
+        for net in (0..64).rev() {
+            arguments.pattern[net] = if net % 2 == 0 { 4 } else { 2 };
+            refused(SIMULATE, &arguments, 16, net as u64);
+        }
+    }
+
+    /// Bytes past the inputs are not read.
+    #[test]
+    fn bytes_past_the_inputs() {
+        let mut arguments = arguments();
+        arguments.pattern[2..].fill(255);
+        accepted(SIMULATE, &arguments);
+        arguments.pattern[1] = 255;
+        refused(SIMULATE, &arguments, 16, 1);
+    }
+}
+
+mod order {
+    use super::*;
+
+    /// One fault of the arguments: its refusal's number and place, and how to make it.
+    type Fault = (u64, u64, fn(&mut Arguments));
+
+    fn byte(arguments: &mut Arguments, net: usize, byte: usize, value: u8) {
+        arguments.file[20 * net + byte] = value;
+    }
+
+    /// Faults of the file, for each of checks 1 to 9.
+    const FILE: [Fault; 11] = [
+        (1, 0, |arguments| arguments.file.push(1)),
+        (2, 0, |arguments| arguments.file.resize(20 * 1025, 0)),
+        (3, 0, |arguments| arguments.file.clear()),
+        (3, 0, |arguments| byte(arguments, 0, 0, 9)),
+        (9, 0, |arguments| byte(arguments, 0, 18, 16)),
+        (7, 1, |arguments| byte(arguments, 1, 19, 1)),
+        (4, 2, |arguments| byte(arguments, 2, 0, 10)),
+        (6, 2, |arguments| byte(arguments, 2, 3, 0)),
+        (8, 2, |arguments| byte(arguments, 2, 4, 2)),
+        (5, 3, |arguments| byte(arguments, 3, 0, 1)),
+        (9, 3, |arguments| byte(arguments, 3, 2, 0)),
+    ];
+
+    const HOP_LIMIT: Fault = (11, 0, |arguments| arguments.hop_limit = 0);
+    const TABLE: Fault = (12, 0, |arguments| arguments.table.truncate(15));
+    const SHEET: Fault = (15, 1, |arguments| arguments.sheet.truncate(8191));
+    const PATTERN: Fault = (15, 2, |arguments| arguments.pattern.truncate(63));
+    const WORK: Fault = (15, 3, |arguments| arguments.work.truncate(639));
+    const FIRST_BYTE: Fault = (16, 0, |arguments| arguments.pattern[0] = 4);
+    const SECOND_BYTE: Fault = (16, 1, |arguments| arguments.pattern[1] = 2);
+
+    const OF_ENVELOPE: [Fault; 4] = [HOP_LIMIT, TABLE, SHEET, WORK];
+    const OF_SIMULATE: [Fault; 6] = [TABLE, SHEET, PATTERN, WORK, FIRST_BYTE, SECOND_BYTE];
+
+    /// The block's arguments with these faults.
+    fn with(faults: &[Fault]) -> Arguments {
+        let mut arguments = arguments();
+        // The earliest is made last, so that a shortened buffer still has the bytes of the others.
+        for (_, _, make) in faults.iter().rev() {
+            make(&mut arguments);
+        }
+        arguments
+    }
+
+    /// Each fault alone, each pair, and each fault with all later ones: the earliest is returned.
+    #[track_caller]
+    fn in_order(call: Operation, faults: &[Fault]) {
+        accepted(call, &with(&[]));
+        for (index, &fault) in faults.iter().enumerate() {
+            let (number, place, _) = fault;
+            refused(call, &with(&[fault]), number, place);
+            refused(call, &with(&faults[index..]), number, place);
+            for &later in &faults[index + 1..] {
+                refused(call, &with(&[fault, later]), number, place);
+            }
+        }
+    }
+
+    #[test]
+    fn of_envelope() {
+        in_order(ENVELOPE, &OF_ENVELOPE);
+    }
+
+    #[test]
+    fn of_simulate() {
+        in_order(SIMULATE, &OF_SIMULATE);
+    }
+
+    #[test]
+    fn after_the_file_in_envelope() {
+        for fault in FILE {
+            in_order(ENVELOPE, &[&[fault], &OF_ENVELOPE[..]].concat());
+        }
+    }
+
+    #[test]
+    fn after_the_file_in_simulate() {
+        for fault in FILE {
+            in_order(SIMULATE, &[&[fault], &OF_SIMULATE[..]].concat());
+        }
+    }
+
+    /// Check 10 is the last of the file's and the arrival is of the last net.
+    #[test]
+    fn after_the_arrival() {
+        let mut block = vec![input(15)];
+        for pin in 0..5 {
+            let mut buffer = gate(BUF, &[pin]);
+            buffer[2] = if pin == 4 { 4 } else { 63 };
+            block.push(buffer);
+        }
+        for (call, faults) in [(ENVELOPE, &OF_ENVELOPE[..]), (SIMULATE, &OF_SIMULATE[..])] {
+            for (_, _, make) in faults {
+                let mut arguments = Arguments::new(&block);
+                make(&mut arguments);
+                refused(call, &arguments, 10, 5);
+            }
+        }
+    }
+
+    /// What Simulate does not take is no fault there, and the pattern none of Envelope.
+    #[test]
+    fn of_the_other_operation() {
+        accepted(SIMULATE, &with(&[HOP_LIMIT]));
+        for fault in [PATTERN, FIRST_BYTE, SECOND_BYTE] {
+            accepted(ENVELOPE, &with(&[fault]));
+        }
+    }
+}
+
+/// All six numbers, over what stood there before.
+mod whole_answer {
+    use super::*;
+
+    fn envelope(arguments: &mut Arguments) -> raw::Answer {
+        let mut answer = [u64::MAX; 6];
+        // SAFETY: each pointer is good for its length, and no two buffers overlap.
+        unsafe {
+            raw::zimgurav_envelope(
+                arguments.file.as_ptr(),
+                arguments.file.len(),
+                arguments.hop_limit,
+                arguments.table.as_ptr(),
+                arguments.table.len(),
+                arguments.sheet.as_mut_ptr(),
+                arguments.sheet.len(),
+                arguments.work.as_mut_ptr(),
+                arguments.work.len(),
+                &mut answer,
+            );
+        }
+        answer
+    }
+
+    fn simulate(arguments: &mut Arguments) -> raw::Answer {
+        let mut answer = [u64::MAX; 6];
+        // SAFETY: each pointer is good for its length, and no two buffers overlap.
+        unsafe {
+            raw::zimgurav_simulate(
+                arguments.file.as_ptr(),
+                arguments.file.len(),
+                arguments.table.as_ptr(),
+                arguments.table.len(),
+                arguments.sheet.as_mut_ptr(),
+                arguments.sheet.len(),
+                arguments.pattern.as_ptr(),
+                arguments.pattern.len(),
+                arguments.work.as_mut_ptr(),
+                arguments.work.len(),
+                &mut answer,
+            );
+        }
+        answer
+    }
+
+    /// Both gates draw 257 at tick 1 of their pulse: net 2 from tick 0, net 3 from tick 0 for an
+    /// edge of net 1 and from tick 1 for one of net 2.
+    #[test]
+    fn accepted() {
+        assert_eq!(envelope(&mut arguments()), [0, 514, 3, 0, 0, 0]);
+        let mut lh_and_h = arguments();
+        lh_and_h.pattern[..2].copy_from_slice(&[3, 1]);
+        assert_eq!(simulate(&mut lh_and_h), [0, 257, 3, 0, 0, 0]);
+        assert_eq!(simulate(&mut arguments()), [0, 0, 3, 0, 0, 0]);
+    }
+
+    #[test]
+    fn refused() {
+        let mut hops = arguments();
+        hops.hop_limit = 17;
+        assert_eq!(envelope(&mut hops), [11, 0, 0, 0, 0, 0]);
+        let mut table = arguments();
+        table.table.clear();
+        assert_eq!(envelope(&mut table), [12, 0, 0, 0, 0, 0]);
+        assert_eq!(simulate(&mut table), [12, 0, 0, 0, 0, 0]);
+        let mut work = arguments();
+        work.work.clear();
+        assert_eq!(envelope(&mut work), [15, 3, 0, 0, 0, 0]);
+        assert_eq!(simulate(&mut work), [15, 3, 0, 0, 0, 0]);
+        let mut pattern = arguments();
+        pattern.pattern[1] = 2;
+        assert_eq!(simulate(&mut pattern), [16, 1, 0, 0, 0, 0]);
+        let mut file = arguments();
+        file.file[20 * 3 + 2] = 0;
+        assert_eq!(envelope(&mut file), [9, 3, 0, 0, 0, 0]);
+        assert_eq!(simulate(&mut file), [9, 3, 0, 0, 0, 0]);
+    }
+}

@@ -1,0 +1,627 @@
+//! Envelope and Simulate on document 01's examples, at the ends of their ranges, with all kinds of
+//! buffers, and against each other. The expected currents are written from document 01, and both the
+//! library and the second implementation must give them.
+
+use check::implementation::{Implementation, Operation, LIBRARY, SECOND};
+use check::kind::{AND, BUF, NAND, NOR, NOT, OR, XNOR, XOR};
+use check::sample::{allowed, gate, input, Arguments, Random, Record, Shape};
+use zimgurav::{Currents, Refusal};
+
+const L: u8 = 0;
+const H: u8 = 1;
+const HL: u8 = 2;
+const LH: u8 = 3;
+
+/// Checks the drop, the quiet tick and every word of the sheet. A row is written from tick 0 and is
+/// 0 after what is written; the contacts that have no row draw nothing.
+#[track_caller]
+fn gives(arguments: &Arguments, call: Operation, drop: u64, quiet: u64, rows: &[(usize, &[u32])]) {
+    let mut sheet = vec![0; 8192];
+    for &(contact, row) in rows {
+        let start = 512 * contact;
+        sheet[start..start + row.len()].copy_from_slice(row);
+    }
+    for implementation in [LIBRARY, SECOND] {
+        let name = implementation.name;
+        let mut lent = arguments.clone();
+        let answer = call(&implementation, &mut lent);
+        assert_eq!(answer, Ok(Currents { drop, quiet }), "{name}");
+        let different = (0..8192).find(|&word| lent.sheet[word] != sheet[word]);
+        if let Some(word) = different {
+            let (contact, tick) = (word / 512, word % 512);
+            let (is, not) = (lent.sheet[word], sheet[word]);
+            panic!("{name}: {is} instead of {not} at contact {contact}, tick {tick}");
+        }
+    }
+}
+
+#[track_caller]
+fn envelope_gives(arguments: &Arguments, drop: u64, quiet: u64, rows: &[(usize, &[u32])]) {
+    gives(arguments, Implementation::envelope, drop, quiet, rows);
+}
+
+#[track_caller]
+fn simulate_gives(arguments: &Arguments, drop: u64, quiet: u64, rows: &[(usize, &[u32])]) {
+    gives(arguments, Implementation::simulate, drop, quiet, rows);
+}
+
+/// A gate with this contact, delay, rise, fall, peak for lh and peak for hl.
+fn drawing(mut gate: Record, [contact, delay, rise, fall]: [u8; 4], [lh, hl]: [u16; 2]) -> Record {
+    gate[1] = contact;
+    gate[2] = delay;
+    gate[12] = rise;
+    gate[13] = fall;
+    gate[14..16].copy_from_slice(&lh.to_le_bytes());
+    gate[16..18].copy_from_slice(&hl.to_le_bytes());
+    gate
+}
+
+/// A gate that draws nothing, with this delay.
+fn silent(gate: Record, delay: u8) -> Record {
+    drawing(gate, [0, delay, 1, 1], [0, 0])
+}
+
+/// Accepted arguments with this pattern at the first inputs.
+fn with_pattern(block: &[Record], excitations: &[u8]) -> Arguments {
+    let mut arguments = Arguments::new(block);
+    arguments.pattern[..excitations.len()].copy_from_slice(excitations);
+    arguments
+}
+
+mod block_f {
+    use super::*;
+
+    /// Block F with resistances 2 and 1 at contacts 0 and 1.
+    fn arguments(excitations: [u8; 2]) -> Arguments {
+        let not = drawing(gate(NOT, &[0]), [0, 1, 1, 2], [10, 20]);
+        let nand = drawing(gate(NAND, &[1, 2]), [1, 2, 2, 2], [30, 31]);
+        let block = [input(15), input(15), not, nand];
+        assert_eq!(
+            block.concat(),
+            include_bytes!("../../../examples/block_f.blk")
+        );
+        let mut arguments = with_pattern(&block, &excitations);
+        arguments.table = vec![0; 16];
+        arguments.table[..2].copy_from_slice(&[2, 1]);
+        arguments
+    }
+
+    #[test]
+    fn envelope() {
+        let rows: [(usize, &[u32]); 2] = [(0, &[0, 20, 10, 0]), (1, &[0, 15, 31, 31, 15, 0])];
+        envelope_gives(&arguments([L, L]), 55, 5, &rows);
+        for hop_limit in 1..=16 {
+            let arguments = Arguments {
+                hop_limit,
+                ..arguments([L, L])
+            };
+            envelope_gives(&arguments, 55, 5, &rows);
+        }
+    }
+
+    #[test]
+    fn both_lh() {
+        let rows: [(usize, &[u32]); 2] = [(0, &[0, 20, 10, 0]), (1, &[0, 15, 31, 30, 15])];
+        simulate_gives(&arguments([LH, LH]), 55, 5, &rows);
+    }
+
+    /// Net 2 falls at tick 1; net 3 has h, as net 1 is low.
+    #[test]
+    fn lh_and_l() {
+        simulate_gives(&arguments([LH, L]), 40, 5, &[(0, &[0, 20, 10])]);
+    }
+
+    /// Net 2 rises at tick 1, and net 3 falls at tick 3, as net 1 is high.
+    #[test]
+    fn hl_and_h() {
+        let rows: [(usize, &[u32]); 2] = [(0, &[0, 10, 5]), (1, &[0, 0, 15, 31, 15])];
+        simulate_gives(&arguments([HL, H]), 31, 5, &rows);
+    }
+
+    #[test]
+    fn no_transition() {
+        for excitations in [[L, L], [L, H], [H, L], [H, H]] {
+            simulate_gives(&arguments(excitations), 0, 5, &[]);
+        }
+    }
+}
+
+mod block_s {
+    use super::*;
+
+    fn arguments(excitation: u8) -> Arguments {
+        let buf = drawing(gate(BUF, &[0]), [0, 1, 1, 1], [10, 0]);
+        let not = drawing(gate(NOT, &[0]), [0, 1, 1, 1], [10, 0]);
+        let block = [input(15), buf, not];
+        assert_eq!(
+            block.concat(),
+            include_bytes!("../../../examples/block_s.blk")
+        );
+        with_pattern(&block, &[excitation])
+    }
+
+    /// U is 20 before any split.
+    #[test]
+    fn envelope() {
+        envelope_gives(&arguments(L), 20, 2, &[(0, &[0, 20])]);
+    }
+
+    /// L is 10, whichever of the two gates rises.
+    #[test]
+    fn simulate() {
+        simulate_gives(&arguments(LH), 10, 2, &[(0, &[0, 10])]);
+        simulate_gives(&arguments(HL), 10, 2, &[(0, &[0, 10])]);
+        simulate_gives(&arguments(H), 0, 2, &[]);
+        simulate_gives(&arguments(L), 0, 2, &[]);
+    }
+}
+
+mod pulses {
+    use super::*;
+
+    /// One buffer at contact 0 that rises, seen by both operations.
+    #[track_caller]
+    fn pulse(slopes: [u8; 2], peak: u16, row: &[u32]) {
+        let [rise, fall] = slopes;
+        let buffer = drawing(gate(BUF, &[0]), [0, 1, rise, fall], [peak, 0]);
+        let arguments = with_pattern(&[input(8), buffer], &[LH]);
+        let quiet = u64::from(rise) + u64::from(fall);
+        simulate_gives(&arguments, u64::from(peak), quiet, &[(0, row)]);
+        envelope_gives(&arguments, u64::from(peak), quiet, &[(0, row)]);
+    }
+
+    #[test]
+    fn of_31() {
+        pulse([2, 2], 31, &[0, 15, 31, 15, 0]);
+    }
+
+    #[test]
+    fn of_7() {
+        pulse([3, 1], 7, &[0, 2, 4, 7]);
+        pulse([1, 3], 7, &[0, 7, 4, 2]);
+    }
+
+    #[test]
+    fn of_nothing() {
+        pulse([127, 127], 0, &[]);
+    }
+
+    #[test]
+    fn of_the_greatest_peak_and_slopes() {
+        let rising = (0..=127).map(|k| 65_535 * k / 127);
+        let falling = (128..=254).map(|k| 65_535 * (254 - k) / 127);
+        let row: Vec<u32> = rising.chain(falling).collect();
+        pulse([127, 127], 65_535, &row);
+    }
+
+    /// Arrival 255 at the end of a chain: the last pulse ends at tick 508 with a delay of 1.
+    #[test]
+    fn at_the_latest_arrival() {
+        let mut block = vec![input(8)];
+        for (pin, delay) in (0..).zip([63, 63, 63, 63, 2]) {
+            block.push(silent(gate(BUF, &[pin]), delay));
+        }
+        block.push(drawing(gate(BUF, &[5]), [15, 1, 127, 127], [65_535, 1]));
+        let arguments = with_pattern(&block, &[LH]);
+        let mut row = vec![0; 254];
+        row.extend((0..=127).map(|k| 65_535 * k / 127));
+        row.extend((128..=254).map(|k| 65_535 * (254 - k) / 127));
+        simulate_gives(&arguments, 65_535, 508, &[(15, &row)]);
+        envelope_gives(&arguments, 65_535, 508, &[(15, &row)]);
+
+        block[6][2] = 2;
+        let arguments = Arguments {
+            file: block.concat(),
+            ..arguments
+        };
+        for call in [Implementation::envelope, Implementation::simulate] {
+            for implementation in [LIBRARY, SECOND] {
+                let refusal = Refusal {
+                    number: 10,
+                    place: 6,
+                };
+                let mut lent = arguments.clone();
+                assert_eq!(call(&implementation, &mut lent), Err(refusal));
+                assert!(lent == arguments);
+            }
+        }
+    }
+
+    /// A pulse starts D before its transition, and the greatest of a gate's pulses counts, while
+    /// those of two gates are added.
+    #[test]
+    fn of_one_gate_and_of_two() {
+        // Net 3 has lh at tick 10, hl at 12: pulses from ticks 6 and 8.
+        let xor = drawing(gate(XOR, &[1, 2]), [3, 4, 3, 3], [30, 60]);
+        let block = [
+            input(8),
+            silent(gate(BUF, &[0]), 6),
+            silent(gate(BUF, &[0]), 8),
+            xor,
+        ];
+        let row = [0, 0, 0, 0, 0, 0, 0, 10, 20, 30, 40, 60, 40, 20];
+        simulate_gives(&with_pattern(&block, &[LH]), 60, 14, &[(3, &row)]);
+        let two = [&block[..], &[xor]].concat();
+        let row = row.map(|current| 2 * current);
+        simulate_gives(&with_pattern(&two, &[LH]), 120, 14, &[(3, &row)]);
+    }
+}
+
+mod runs {
+    use super::*;
+
+    /// A gate that may rise at exactly these ticks, through as many delays, and draws 10 at each.
+    fn may_rise_at(ticks: &[u8], hop_limit: u64) -> Arguments {
+        let mut block = vec![input(1 + 8)];
+        for tick in ticks {
+            block.push(silent(gate(BUF, &[0]), tick - 1));
+        }
+        let pins: Vec<u16> = (1..).take(ticks.len()).collect();
+        block.push(drawing(gate(XOR, &pins), [0, 1, 1, 1], [10, 0]));
+        Arguments {
+            hop_limit,
+            ..Arguments::new(&block)
+        }
+    }
+
+    #[track_caller]
+    fn filled(ticks: &[u8], hop_limit: u64, expected: &[usize]) {
+        let mut row = [0; 256];
+        for &tick in expected {
+            row[tick] = 10;
+        }
+        // The gate's delay is 1, so that its quiet tick is one after its arrival.
+        let quiet = u64::from(ticks[ticks.len() - 1]) + 1;
+        let arguments = may_rise_at(ticks, hop_limit);
+        envelope_gives(&arguments, 10, quiet, &[(0, &row)]);
+    }
+
+    #[test]
+    fn at_2_4_9() {
+        for hop_limit in 3..=16 {
+            filled(&[2, 4, 9], hop_limit, &[2, 4, 9]);
+        }
+        filled(&[2, 4, 9], 2, &[2, 3, 4, 9]);
+        filled(&[2, 4, 9], 1, &[2, 3, 4, 5, 6, 7, 8, 9]);
+    }
+
+    #[test]
+    fn at_2_4_6() {
+        filled(&[2, 4, 6], 3, &[2, 4, 6]);
+        filled(&[2, 4, 6], 2, &[2, 3, 4, 6]);
+        filled(&[2, 4, 6], 1, &[2, 3, 4, 5, 6]);
+    }
+
+    #[test]
+    fn neighbours_are_one() {
+        filled(&[2, 3, 7], 2, &[2, 3, 7]);
+        filled(&[2, 3, 7, 8], 2, &[2, 3, 7, 8]);
+        filled(&[2, 3, 7, 9], 2, &[2, 3, 7, 8, 9]);
+    }
+
+    #[test]
+    fn the_shortest_gap_is_the_last() {
+        filled(&[2, 7, 9], 2, &[2, 7, 8, 9]);
+        filled(&[2, 6, 9, 11], 3, &[2, 6, 9, 10, 11]);
+        filled(&[2, 6, 9, 11], 2, &[2, 6, 7, 8, 9, 10, 11]);
+    }
+
+    /// Filled sets, not raw ones, are what the next gate sees: net 7 has lh after ticks 2, 3 and 4 of
+    /// net 6, and not after tick 9, when net 5 is low. From raw sets it would have two runs.
+    #[test]
+    fn are_filled_before_the_next_gate() {
+        let block = [
+            input(1 + 8),
+            input(4),
+            silent(gate(BUF, &[0]), 1),
+            silent(gate(BUF, &[0]), 3),
+            silent(gate(BUF, &[0]), 8),
+            silent(gate(BUF, &[1]), 6),
+            drawing(gate(XOR, &[2, 3, 4]), [0, 1, 1, 1], [10, 0]),
+            drawing(gate(AND, &[6, 5]), [7, 20, 1, 1], [5, 0]),
+        ];
+        let arguments = Arguments {
+            hop_limit: 2,
+            ..Arguments::new(&block)
+        };
+        let rows: [(usize, &[u32]); 2] = [
+            (0, &[0, 0, 10, 10, 10, 0, 0, 0, 0, 10]),
+            (7, &[0, 0, 0, 5, 5, 5]),
+        ];
+        envelope_gives(&arguments, 15, 11, &rows);
+    }
+
+    /// Gaps of l are filled as those of an edge are: net 4 has l up to tick 1 and from tick 12 on, and
+    /// net 5 rises at tick 6 only if net 4 may have l at tick 5. With one hop, ticks 3 and 6 are then
+    /// one run of net 5.
+    #[test]
+    fn of_a_held_level() {
+        let block = [
+            input(8),
+            silent(gate(BUF, &[0]), 1),
+            silent(gate(BUF, &[0]), 10),
+            silent(gate(BUF, &[0]), 5),
+            silent(gate(XOR, &[1, 2]), 1),
+            drawing(gate(OR, &[4, 3]), [0, 1, 1, 1], [10, 0]),
+        ];
+        let mut arguments = Arguments::new(&block);
+        envelope_gives(&arguments, 10, 13, &[(0, &[0, 0, 0, 10])]);
+        arguments.hop_limit = 2;
+        envelope_gives(&arguments, 10, 13, &[(0, &[0, 0, 0, 10])]);
+        arguments.hop_limit = 1;
+        envelope_gives(&arguments, 10, 13, &[(0, &[0, 0, 0, 10, 10, 10, 10])]);
+    }
+}
+
+mod gates {
+    use super::*;
+
+    /// A gate of this kind over inputs with these excitations: `edge` is what its transition
+    /// draws, 10 for lh and 20 for hl, or 0 if it has none.
+    #[track_caller]
+    fn draws(kind: u8, excitations: &[u8], edge: u32) {
+        let pins: Vec<u16> = (0..).take(excitations.len()).collect();
+        let mut block: Vec<Record> = excitations.iter().map(|&byte| input(1 << byte)).collect();
+        block.push(drawing(gate(kind, &pins), [0, 1, 1, 1], [10, 20]));
+        let arguments = with_pattern(&block, excitations);
+        simulate_gives(&arguments, edge.into(), 2, &[(0, &[0, edge])]);
+        envelope_gives(&arguments, edge.into(), 2, &[(0, &[0, edge])]);
+    }
+
+    #[test]
+    fn of_one_pin() {
+        draws(BUF, &[LH], 10);
+        draws(BUF, &[HL], 20);
+        draws(NOT, &[LH], 20);
+        draws(NOT, &[HL], 10);
+        draws(NOT, &[H], 0);
+    }
+
+    #[test]
+    fn of_two_pins() {
+        draws(AND, &[LH, H], 10);
+        draws(AND, &[LH, HL], 0);
+        draws(NAND, &[LH, H], 20);
+        draws(OR, &[HL, L], 20);
+        draws(OR, &[HL, LH], 0);
+        draws(NOR, &[HL, L], 10);
+        draws(XOR, &[H, LH], 20);
+        draws(XOR, &[LH, HL], 0);
+        draws(XNOR, &[H, LH], 10);
+    }
+
+    /// Three NAND pins are not joined by NAND twice.
+    #[test]
+    fn of_several_pins() {
+        draws(NAND, &[H, H, LH], 20);
+        draws(NAND, &[L, H, LH], 0);
+        draws(NAND, &[H, H, H, HL], 10);
+        draws(NOR, &[L, L, LH], 20);
+        draws(NOR, &[H, L, LH], 0);
+        draws(NOR, &[L, L, L, HL], 10);
+        draws(XNOR, &[L, L, LH], 20);
+        draws(XNOR, &[H, H, H, LH], 10);
+        draws(XOR, &[LH, LH, LH], 10);
+        draws(XOR, &[LH, LH, LH, LH], 0);
+    }
+
+    /// A net on two pins is one net for Simulate and two independent ones for Envelope.
+    #[test]
+    fn with_one_net_on_two_pins() {
+        let xor = drawing(gate(XOR, &[0, 0]), [0, 1, 1, 1], [10, 0]);
+        let arguments = with_pattern(&[input(1 + 8), xor], &[LH]);
+        simulate_gives(&arguments, 0, 2, &[]);
+        envelope_gives(&arguments, 10, 2, &[(0, &[0, 10])]);
+    }
+}
+
+mod drops {
+    use super::*;
+
+    #[test]
+    fn without_gates() {
+        for inputs in [1, 2, 64] {
+            let arguments = with_pattern(&vec![input(8); inputs], &[LH; 64][..inputs]);
+            envelope_gives(&arguments, 0, 0, &[]);
+            simulate_gives(&arguments, 0, 0, &[]);
+        }
+    }
+
+    /// Currents of different ticks are not added.
+    #[test]
+    fn are_of_one_tick() {
+        let block = [
+            input(8),
+            drawing(gate(BUF, &[0]), [0, 1, 1, 1], [10, 0]),
+            drawing(gate(BUF, &[1]), [1, 1, 1, 1], [10, 0]),
+        ];
+        let rows: [(usize, &[u32]); 2] = [(0, &[0, 10]), (1, &[0, 0, 10])];
+        let arguments = with_pattern(&block, &[LH]);
+        simulate_gives(&arguments, 10, 3, &rows);
+        envelope_gives(&arguments, 10, 3, &rows);
+    }
+
+    /// Each node of each table has its own row of resistances; the greatest of them counts.
+    #[test]
+    fn are_of_one_node() {
+        let block: Vec<Record> = (0..17)
+            .map(|net| match net {
+                0 => input(8),
+                _ => drawing(gate(BUF, &[0]), [net - 1, 1, 1, 1], [1, 0]),
+            })
+            .collect();
+        let rows: Vec<(usize, &[u32])> = (0..16).map(|contact| (contact, &[0, 1][..])).collect();
+        for nodes in 1..=16 {
+            for node in 0..nodes {
+                for contact in 0..16 {
+                    let mut arguments = with_pattern(&block, &[LH]);
+                    arguments.table = vec![1; 16 * nodes];
+                    arguments.table[16 * node + contact] = 65_535;
+                    simulate_gives(&arguments, 65_535 + 15, 2, &rows);
+                    if nodes % 5 == 1 {
+                        envelope_gives(&arguments, 65_535 + 15, 2, &rows);
+                    }
+                }
+            }
+        }
+    }
+
+    /// As many gates as there can be, each with the greatest peak, at the greatest resistance.
+    #[test]
+    fn at_their_greatest() {
+        for (contacts, delay) in [(1, 1), (16, 1), (16, 63)] {
+            let mut block = vec![input(8)];
+            for net in 1..1024 {
+                let contact = (net % contacts) as u8;
+                block.push(drawing(
+                    gate(BUF, &[0]),
+                    [contact, delay, 1, 1],
+                    [65_535; 2],
+                ));
+            }
+            let mut arguments = with_pattern(&block, &[LH]);
+            arguments.table = vec![65_535; 256];
+            let gates: Vec<u32> = (0..16)
+                .map(|contact| (1..1024).filter(|net| net % contacts == contact).count() as u32)
+                .collect();
+            let row: Vec<[u32; 2]> = gates.iter().map(|gates| [0, 65_535 * gates]).collect();
+            let rows: Vec<(usize, &[u32])> = (0..).zip(row.iter().map(|row| &row[..])).collect();
+            let drop = 65_535 * 65_535 * 1023;
+            simulate_gives(&arguments, drop, 2, &rows);
+            envelope_gives(&arguments, drop, 2, &rows);
+        }
+    }
+}
+
+mod buffers {
+    use super::*;
+
+    /// Blocks of several shapes, each with random arguments.
+    fn samples(seed: u64, count: usize) -> impl Iterator<Item = Arguments> {
+        let mut random = Random::new(seed);
+        (0..count).map(move |_| {
+            let records = 1 + random.below(120);
+            let shape = Shape::random(&mut random, records);
+            let block = shape.block(&mut random);
+            Arguments::random(&mut random, &block)
+        })
+    }
+
+    const OPERATIONS: [Operation; 2] = [Implementation::envelope, Implementation::simulate];
+
+    /// What is only read stays as it was.
+    #[test]
+    fn to_read_are_unchanged() {
+        for arguments in samples(2, 200) {
+            for call in OPERATIONS {
+                let mut lent = arguments.clone();
+                call(&LIBRARY, &mut lent).expect("accepted");
+                assert!(lent.file == arguments.file);
+                assert!(lent.table == arguments.table);
+                assert!(lent.pattern == arguments.pattern);
+            }
+        }
+    }
+
+    /// What stood in the sheet and the work buffer, and how long the work buffer is, do not matter.
+    #[test]
+    fn to_write_may_hold_anything() {
+        let mut random = Random::new(3);
+        for arguments in samples(3, 100) {
+            let nets = arguments.file.len() / 20;
+            for call in OPERATIONS {
+                let mut clean = arguments.clone();
+                clean.sheet.fill(0);
+                clean.work = vec![0; 160 * nets];
+                let answer = call(&LIBRARY, &mut clean);
+                assert!(answer.is_ok());
+                for more in [0, 1, 160, 1 << 16] {
+                    let mut dirty = arguments.clone();
+                    dirty.sheet.fill_with(|| random.bits() as u32);
+                    dirty.work.resize(160 * nets + more, 0);
+                    dirty.work.fill_with(|| random.byte(0, 255));
+                    assert_eq!(call(&LIBRARY, &mut dirty), answer);
+                    assert!(dirty.sheet == clean.sheet);
+                    // Once more, with what the call left in its buffers.
+                    assert_eq!(call(&LIBRARY, &mut dirty), answer);
+                    assert!(dirty.sheet == clean.sheet);
+                }
+            }
+        }
+    }
+
+    /// Bytes past the inputs are not read.
+    #[test]
+    fn of_the_pattern_past_the_inputs() {
+        let buffer = drawing(gate(BUF, &[1]), [0, 1, 1, 1], [10, 0]);
+        let mut arguments = with_pattern(&[input(15), input(15), buffer], &[L, LH]);
+        for byte in [0, 3, 4, 255] {
+            arguments.pattern[2..].fill(byte);
+            simulate_gives(&arguments, 10, 2, &[(0, &[0, 10])]);
+        }
+    }
+}
+
+mod soundness {
+    use super::*;
+
+    /// Every pattern of the frame that these inputs allow.
+    fn patterns(inputs: &[Record]) -> Vec<Vec<u8>> {
+        let mut patterns = vec![Vec::new()];
+        for input in inputs {
+            let longer = patterns.iter().flat_map(|pattern: &Vec<u8>| {
+                let bytes = allowed(input).into_iter();
+                bytes.map(|byte| [&pattern[..], &[byte]].concat())
+            });
+            patterns = longer.collect();
+        }
+        patterns
+    }
+
+    /// Each word of each pattern's sheet, and its drop, is at most the envelope's.
+    #[test]
+    fn every_pattern_is_below_the_envelope() {
+        let mut random = Random::new(4);
+        let mut reached = 0;
+        for _ in 0..400 {
+            let inputs = 1 + random.below(4);
+            let shape = Shape {
+                inputs,
+                ..Shape::random(&mut random, 40)
+            };
+            let block = shape.block(&mut random);
+            let mut ceiling = Arguments::random(&mut random, &block);
+            let envelope = LIBRARY.envelope(&mut ceiling).expect("accepted");
+            let mut under = ceiling.clone();
+            for pattern in patterns(&block[..inputs]) {
+                under.pattern[..inputs].copy_from_slice(&pattern);
+                let currents = LIBRARY.simulate(&mut under).expect("accepted");
+                assert!(currents.drop <= envelope.drop);
+                assert_eq!(currents.quiet, envelope.quiet);
+                let mut words = under.sheet.iter().zip(&ceiling.sheet);
+                assert!(words.all(|(current, ceiling)| current <= ceiling));
+                reached += usize::from(0 < currents.drop && currents.drop < envelope.drop);
+            }
+        }
+        println!("drops above 0 and below the envelope's: {reached}");
+        assert!(reached >= 1_000, "the envelope is hardly ever above a drop");
+    }
+
+    /// After the quiet tick every row is 0.
+    #[test]
+    fn rows_are_0_after_the_quiet_tick() {
+        let mut random = Random::new(5);
+        for _ in 0..200 {
+            let shape = Shape::random(&mut random, 100);
+            let block = shape.block(&mut random);
+            let mut arguments = Arguments::random(&mut random, &block);
+            for call in [Implementation::envelope, Implementation::simulate] {
+                let currents = call(&LIBRARY, &mut arguments).expect("accepted");
+                for row in arguments.sheet.chunks_exact(512) {
+                    let after = &row[currents.quiet as usize + 1..];
+                    assert!(after.iter().all(|&current| current == 0));
+                }
+            }
+        }
+    }
+}
