@@ -17,7 +17,7 @@ use Rattle.laws.proofs.Tests.{and-first-fails}
 use Rattle.excitation.specs.UncertaintySet.{member, decode}
 use Rattle.excitation.proofs.Sets.{level-same}
 use Rattle.fill.specs.Codes.{Codes}
-use Rattle.current.specs.Edges.{edgeOf, EdgeBit, held, Seen, chosen, ChosenWithin, ChosenIfSeen, EdgesWithin}
+use Rattle.current.specs.Edges.{edgeOf, EdgeBit, holdsEdge, Seen, chosen, ChosenWithin, ChosenIfSeen, EdgesWithin}
 
 -- What passes for both edges and all codes.
 edge-test : (p : ℕ → ℕ → Bool) → allBelow 16 (p 8) ≡ true → allBelow 16 (p 4) ≡ true → {bit code : ℕ} → EdgeBit bit → code < 16 → p bit code ≡ true
@@ -54,15 +54,15 @@ chosenRest bit code =
     Bool·beq (eqb (bitAnd code 12) (12 - bit)) (member (edgeOf (12 - bit)) (decode code) && not (member (edgeOf bit) (decode code)))
 
 module _ {codes : List ℕ} (coded : Codes codes) {bit : ℕ} (edge : EdgeBit bit) (t : ℕ) where
-  no-bit : bitAnd (getD codes t 0) bit ≡ 0 → held (edgeOf bit) codes t ≡ false
+  no-bit : bitAnd (getD codes t 0) bit ≡ 0 → holdsEdge (edgeOf bit) codes t ≡ false
   unfolding noBit edgeOf member decode allBelow
   no-bit e = not-true _ (sym (level-same _ _ (edge-test noBit refl refl edge (coded .low t))) ∙ eq-eqb _ _ e)
 
-  pub chosen-all : chosen bit bit codes t ≡ held (edgeOf bit) codes t
+  pub chosen-all : chosen bit bit codes t ≡ holdsEdge (edgeOf bit) codes t
   unfolding chosenAll chosen edgeOf member decode allBelow
   chosen-all = level-same _ _ (edge-test chosenAll refl refl edge (coded .low t))
 
-  pub chosen-rest : chosen 12 (12 - bit) codes t ≡ held (edgeOf (12 - bit)) codes t && not (held (edgeOf bit) codes t)
+  pub chosen-rest : chosen 12 (12 - bit) codes t ≡ holdsEdge (edgeOf (12 - bit)) codes t && not (holdsEdge (edgeOf bit) codes t)
   unfolding chosenRest chosen edgeOf member decode allBelow
   chosen-rest = level-same _ _ (edge-test chosenRest refl refl edge (coded .low t))
 
@@ -86,17 +86,17 @@ seen-all stop past seen = record { low = seen .low; unseen = λ bit edge e t low
 
 -- An edge is held at no tick that is too early or too late, and at none where its bit is not seen.
 module _ {codes : List ℕ} {first last seen : ℕ} (within : EdgesWithin codes first last seen) {bit : ℕ} (edge : EdgeBit bit) where
-  held-before : (t : ℕ) → t < first → held (edgeOf bit) codes t ≡ false
+  held-before : (t : ℕ) → t < first → holdsEdge (edgeOf bit) codes t ≡ false
   unfolding edgeOf
   held-before t h =
       ⊎-elim (λ (e : bit ≡ 8). rw e (within .between .no-rise-before t h)) (λ (e : bit ≡ 4). rw e (within .between .no-fall-before t h)) edge
 
-  pub held-after : (t : ℕ) → last < t → held (edgeOf bit) codes t ≡ false
+  pub held-after : (t : ℕ) → last < t → holdsEdge (edgeOf bit) codes t ≡ false
   unfolding edgeOf
   held-after t h =
       ⊎-elim (λ (e : bit ≡ 8). rw e (within .between .no-rise-after t h)) (λ (e : bit ≡ 4). rw e (within .between .no-fall-after t h)) edge
 
-  pub held-unseen : bitAnd seen bit ≡ 0 → (t : ℕ) → held (edgeOf bit) codes t ≡ false
+  pub held-unseen : bitAnd seen bit ≡ 0 → (t : ℕ) → holdsEdge (edgeOf bit) codes t ≡ false
   held-unseen e t =
       cases (ltb t first)
       (λ b. held-before t (ltb-true t first b))
@@ -105,7 +105,7 @@ module _ {codes : List ℕ} {first last seen : ℕ} (within : EdgesWithin codes 
       (λ u. held-after t (leb-false t last u)))
 
   -- So for the ticks that are chosen among those that hold the edge.
-  chosen-within : (mask : ℕ) → ((t : ℕ) → held (edgeOf bit) codes t ≡ false → chosen mask bit codes t ≡ false)
+  chosen-within : (mask : ℕ) → ((t : ℕ) → holdsEdge (edgeOf bit) codes t ≡ false → chosen mask bit codes t ≡ false)
       → ChosenWithin mask bit codes first (last + 1) × ChosenIfSeen mask bit codes seen
   chosen-within mask none = (
     record {

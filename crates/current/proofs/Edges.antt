@@ -15,7 +15,7 @@ use Rattle.excitation.specs.UncertaintySet.{member, decode}
 use Rattle.excitation.specs.declared.Excitation.{Excitation}
 use Rattle.fill.specs.Codes.{Codes, setsOf}
 use Rattle.current.specs.Current.{ticksWhere}
-use Rattle.current.specs.Edges.{edgeOf, EdgeBit, held, chosen, NextChosen, ChosenUntil, ChosenWithin, EdgeDrawn, EdgesDrawn}
+use Rattle.current.specs.Edges.{edgeOf, EdgeBit, holdsEdge, chosen, NextChosen, ChosenUntil, ChosenWithin, EdgeDrawn, EdgesDrawn}
 use Rattle.current.specs.Levels.{InRange}
 use Rattle.current.specs.Pulse.{pulseAt}
 use Rattle.current.specs.Runs.{RunDrawn}
@@ -34,13 +34,13 @@ span-next mask bit codes {t = t} span here k low high =
 
 -- The ticks of the definition are those that hold the edge.
 module _ (edge : Excitation) (codes : List ℕ) where
-  pub held-tick : (x : ℕ) → length codes ≡ 256 → x < 256 → held edge codes x ≡ true → List·Memᴰ x (ticksWhere (member edge) 0 (setsOf codes))
+  pub held-tick : (x : ℕ) → length codes ≡ 256 → x < 256 → holdsEdge edge codes x ≡ true → List·Memᴰ x (ticksWhere (member edge) 0 (setsOf codes))
   unfolding setsOf
   held-tick x long h e =
       passes-tick (member edge) (decode 0) 0 (setsOf codes) x (rw (length-map codes decode) (omega arith))
       (ap (member edge) (List·getD-map decode codes x 0) ∙ e) x (omega arith)
 
-  pub tick-held : (x : ℕ) → List·Memᴰ x (ticksWhere (member edge) 0 (setsOf codes)) → held edge codes x ≡ true
+  pub tick-held : (x : ℕ) → List·Memᴰ x (ticksWhere (member edge) 0 (setsOf codes)) → holdsEdge edge codes x ≡ true
   unfolding setsOf
   tick-held x m =
       let passes = tick-passes (member edge) (decode 0) 0 (setsOf codes) x m in
@@ -48,7 +48,7 @@ module _ (edge : Excitation) (codes : List ℕ) where
       rw e (ap (member edge) (sym (List·getD-map decode codes (passes .0) 0)) ∙ passes .3)
 
   -- Where no tick after `last` holds the edge, the ticks are at most `last`.
-  pub held-at-most : (last : ℕ) → ((t : ℕ) → last < t → held edge codes t ≡ false)
+  pub held-at-most : (last : ℕ) → ((t : ℕ) → last < t → holdsEdge edge codes t ≡ false)
       → (x : ℕ) → List·Memᴰ x (ticksWhere (member edge) 0 (setsOf codes)) → x ≤ last
   unfolding setsOf
   held-at-most last none =
@@ -113,7 +113,7 @@ module _ {P r f D mask bit : ℕ} {codes : List ℕ} (range : InRange P r f) whe
 -- One edge drawn at all its ticks and the other, whose peak is lower, where it is alone: both edges are drawn.
 module _ {P Q r f D bit : ℕ} {codes row risen after : List ℕ} (range : InRange P r f) (less : Q ≤ P) (edge : EdgeBit bit) (coded : Codes codes)
     (first : EdgeDrawn P r f D bit bit codes row risen) (second : EdgeDrawn Q r f D 12 (12 - bit) codes risen after) where
-  one-drawn : (x t : ℕ) → held (edgeOf bit) codes x ≡ true → pulseAt P r f D x t ≤ getD after t 0
+  one-drawn : (x t : ℕ) → holdsEdge (edgeOf bit) codes x ≡ true → pulseAt P r f D x t ≤ getD after t 0
   one-drawn x t h = le-trans (first .new x t (chosen-all coded edge x ∙ h)) (second .old t)
 
   pub edges-drawn : EdgesDrawn P Q r f D bit codes row after
@@ -121,7 +121,7 @@ module _ {P Q r f D bit : ℕ} {codes row risen after : List ℕ} (range : InRan
     long = second .long ∙ first .long;
     one = one-drawn;
     other = λ x t h.
-        cases (held (edgeOf bit) codes x)
+        cases (holdsEdge (edgeOf bit) codes x)
         (λ b. le-trans (pulse-at-grows range less D x t) (one-drawn x t b))
         (λ b. second .new x t (chosen-rest coded edge x ∙ and-both h (ap not b)));
     most = λ t bound h one other.

@@ -17,7 +17,7 @@ use Rattle.block.specs.Accepted.{GateRecord}
 use Rattle.block.specs.Record.{File, contact, delay, rise, fall, peakLh, peakHl}
 use Rattle.current.specs.Current.{Transitions, ticksWhere, greatestAt, gateCurrent}
 use Rattle.current.specs.Drawing.{transitionsIn, Drawable, Drawn}
-use Rattle.current.specs.Edges.{edgeOf, EdgeBit, held, Seen, EdgesWithin, EdgesDrawn, GateCodes, RowDrawn}
+use Rattle.current.specs.Edges.{edgeOf, EdgeBit, holdsEdge, Seen, EdgesWithin, EdgesDrawn, GateCodes, RowDrawn}
 use Rattle.current.specs.Levels.{InRange}
 use Rattle.current.specs.Pulse.{pulseAt}
 use Rattle.current.specs.Words.{Written, withRow}
@@ -75,7 +75,7 @@ module _ (file : File) (net : ℕ) {last seen P Q r f D : ℕ} {codes row after 
   nothing : (t : ℕ) → getD row t 0 ≡ 0
   nothing t = rw zeros (zeros-at 512 t)
 
-  in-time : {bit : ℕ} → EdgeBit bit → (x : ℕ) → held (edgeOf bit) codes x ≡ true → x < 256
+  in-time : {bit : ℕ} → EdgeBit bit → (x : ℕ) → holdsEdge (edgeOf bit) codes x ≡ true → x < 256
   in-time edge x h =
       let short = gate .edges .in-time in
       cases (ltb last x)

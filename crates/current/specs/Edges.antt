@@ -25,13 +25,13 @@ abbrev pub EdgeBit : ℕ → Type 0
 EdgeBit bit = (bit ≡ 8) ⊎ (bit ≡ 4)
 
 -- Whether the set at tick t holds the edge.
-abbrev pub held : Excitation → List ℕ → ℕ → Bool
-held edge codes t = member edge (decode (getD codes t 0))
+abbrev pub holdsEdge : Excitation → List ℕ → ℕ → Bool
+holdsEdge edge codes t = member edge (decode (getD codes t 0))
 
 -- A code that has the bit of each edge that some tick from `from` to before `stop` holds.
 pub record Seen (codes : List ℕ) (from stop seen : ℕ) : Type 0 where
   pub low : seen < 16
-  pub unseen : (bit : ℕ) → EdgeBit bit → bitAnd seen bit ≡ 0 → (t : ℕ) → from ≤ t → t < stop → held (edgeOf bit) codes t ≡ false
+  pub unseen : (bit : ℕ) → EdgeBit bit → bitAnd seen bit ≡ 0 → (t : ℕ) → from ≤ t → t < stop → holdsEdge (edgeOf bit) codes t ≡ false
 
 -- Whether tick t is chosen: its code has, of the bits of a mask, just this bit. With the bit as mask, the ticks that hold the edge are
 -- chosen; with both edges' bits as mask, the ticks that hold this edge and not the other.
@@ -79,10 +79,10 @@ pub record EdgesWithin (codes : List ℕ) (first last seen : ℕ) : Type 0 where
 -- below neither the old one nor any of these pulses.
 pub record EdgesDrawn (P Q r f D bit : ℕ) (codes row after : List ℕ) : Type 0 where
   pub long : length after ≡ length row
-  pub one : (x t : ℕ) → held (edgeOf bit) codes x ≡ true → pulseAt P r f D x t ≤ getD after t 0
-  pub other : (x t : ℕ) → held (edgeOf (12 - bit)) codes x ≡ true → pulseAt Q r f D x t ≤ getD after t 0
-  pub most : (t bound : ℕ) → getD row t 0 ≤ bound → ((x : ℕ) → held (edgeOf bit) codes x ≡ true → pulseAt P r f D x t ≤ bound)
-      → ((x : ℕ) → held (edgeOf (12 - bit)) codes x ≡ true → pulseAt Q r f D x t ≤ bound) → getD after t 0 ≤ bound
+  pub one : (x t : ℕ) → holdsEdge (edgeOf bit) codes x ≡ true → pulseAt P r f D x t ≤ getD after t 0
+  pub other : (x t : ℕ) → holdsEdge (edgeOf (12 - bit)) codes x ≡ true → pulseAt Q r f D x t ≤ getD after t 0
+  pub most : (t bound : ℕ) → getD row t 0 ≤ bound → ((x : ℕ) → holdsEdge (edgeOf bit) codes x ≡ true → pulseAt P r f D x t ≤ bound)
+      → ((x : ℕ) → holdsEdge (edgeOf (12 - bit)) codes x ≡ true → pulseAt Q r f D x t ≤ bound) → getD after t 0 ≤ bound
 
 -- A gate and the codes of its sets.
 pub record GateCodes (file : File) (net : ℕ) (codes : List ℕ) (last seen : ℕ) : Type 0 where

@@ -1,8 +1,8 @@
 // Simulate: the currents of one pattern.
 ghost use mathlib.Core.Path.{_≡_};
-ghost use Prim.Native.Nat.{ℕ, _*_, _≤_, _<_};
+ghost use Prim.Native.Nat.{_*_, _≤_};
 ghost use mathlib.Core.List.{_++_};
-ghost use lib.ListN.{length, getD};
+ghost use lib.ListN.{length};
 ghost use Rattle.block.specs.Record.{HasRecord};
 ghost use Rattle.block.specs.Accepted.{AcceptedFile};
 ghost use Rattle.block.specs.Verdict.{verdict};

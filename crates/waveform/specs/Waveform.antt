@@ -34,12 +34,12 @@ pub record Values : Type 1 where
   -- The first levels held, and the second.
   pub before : Value → Value
   pub after : Value → Value
-  -- What becomes of a gate's values at ticks 0 to 255.
-  pub settle : List Value → List Value
+  -- How the gaps in a gate's values at ticks 0 to 255 are filled.
+  pub fill : List Value → List Value
   -- Whether an excitation is one that the value allows.
   pub allows : Excitation → Value → Bool
 
--- In a simulation an excitation allows itself alone.
+-- In a simulation an excitation allows itself alone, and nothing is filled.
 abbrev pub simulation : Values
 simulation = record {
   Value = Excitation;
@@ -48,7 +48,7 @@ simulation = record {
   invert = invertExcitation;
   before = heldBefore;
   after = heldAfter;
-  settle = λ values. values;
+  fill = λ values. values;
   allows = same;
 }
 
@@ -61,7 +61,7 @@ envelope hops = record {
   invert = invertSet;
   before = heldBeforeSet;
   after = heldAfterSet;
-  settle = filled hops;
+  fill = filled hops;
   allows = member;
 }
 
@@ -70,7 +70,7 @@ abbrev pub switchingTick : File → ℕ → ℕ
 switchingTick file net = 0
 
 module _ (𝓥 : Values) where
-  open Values 𝓥 using (Value, none, join, invert, before, after, settle)
+  open Values 𝓥 using (Value, none, join, invert, before, after, fill)
 
   -- At its switching tick an input has its value, at earlier ticks its first levels held, later its second. It is never filled.
   unfoldable pub inputWaveform : ℕ → Value → Waveform Value
@@ -95,7 +95,7 @@ module _ (𝓥 : Values) where
   unfoldable pub gateWaveform : File → List (Waveform Value) → ℕ → Waveform Value
   gateWaveform file below net = record {
     before = gateFrom file net (λ p. pinWaveform file below net p .before);
-    ticks = settle (listBelow 256 (gateAt file below net));
+    ticks = fill (listBelow 256 (gateAt file below net));
   }
 
   -- The waveform of a net, from those of the nets below it and the inputs' values.

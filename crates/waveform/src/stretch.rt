@@ -1,5 +1,4 @@
 // Stretches of samples and codes, written by one rule.
-ghost use mathlib.Core.Path.{_≡_};
 ghost use Prim.Native.Nat.{_+_, _-_, _≤_, _<_};
 ghost use lib.ListN.{length, getD};
 ghost use Rattle.laws.specs.Rewritten.{Rewritten};
