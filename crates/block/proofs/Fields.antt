@@ -1,21 +1,21 @@
 -- What checks 4 to 9 leave true of a record.
 -- Assumes nothing.
-use Prim.Native.Nat.{ℕ, _≤_, _<_}
+use Prim.Native.Nat.{ℕ, _+_, _≤_, _<_}
 use mathlib.Core.Path.{_≡_, refl, sym, _∙_}
 use mathlib.Core.List.{List·Memᴰ·head, List·Memᴰ·tail}
 use mathlib.Core.Bool.{true, false}
 use native.Mathlib.Omega.{arith}
-use lib.Dec.{leb, ltb}
-use borrow.Author.Tests.{leb-true, ltb-true, eqb-false, eq-eqb, ne-eqb, lt-ltb, le-ltb}
+use lib.Dec.{eqb, leb, ltb}
+use borrow.Author.Tests.{leb-true, ltb-true, eqb-true, eqb-false, eq-eqb, ne-eqb, lt-ltb, le-ltb}
 use Rattle.laws.specs.Below.{allBelow}
 use Rattle.laws.proofs.Tests.{and-left, and-right, and-both, and-first-fails, and-second-fails}
 use Rattle.laws.proofs.Below.{all-at, all-of-count, not-all-of-count}
 use Rattle.block.specs.declared.Verdict.the-variants.{Accepted}
-use Rattle.block.specs.Record.{File, kind, allowed, contact, delay, pinCount, pin, rise, fall, isInput}
+use Rattle.block.specs.Record.{File, byteAt, kind, allowed, contact, delay, pinCount, pin, rise, fall, isInput}
 use Rattle.block.specs.Kind.{Kind, NONE, INPUT, AND, NAND, OR, NOR, XOR, XNOR, NOT, BUF, kindOf, ruleOf}
 use Rattle.block.specs.Block.{inputsBelow}
 use Rattle.block.specs.Verdict.{verdict}
-use Rattle.block.specs.Refusals.{within, kindKnown, inputInPlace, pinCountRight, pinsBelow, gateInRange, inputInRange, inputChecks, gateChecks, fieldChecks}
+use Rattle.block.specs.Refusals.{within, kindKnown, inputInPlace, pinCountRight, zeroBytes, inputSpareZero, pinsBelow, gateInRange, inputInRange, inputChecks, gateChecks, fieldChecks}
 use Rattle.block.specs.Accepted.{InputRecord, GateRecord}
 use Rattle.block.proofs.Verdicts.{listed}
 
@@ -121,6 +121,11 @@ gate-record file net e g =
       fall-high = within-high _ _ _ (ranges .3);
     }
 
+-- Byte 3 of an input is one of those that have to be 0.
+spare-pins : (file : File) (net : ℕ) → inputSpareZero file net ≡ true → pinCount file net ≡ 0
+unfolding inputSpareZero zeroBytes
+spare-pins file net e = eqb-true _ _ (all-at 17 (λ i. eqb (byteAt file net (1 + i)) 0) 2 (and-left _ _ e) (omega arith))
+
 pub input-record : (file : File) (net : ℕ) → verdict (fieldChecks file net) ≡ Accepted → isInput file net ≡ true
     → InputRecord file net × (inputInPlace file net ≡ true)
 unfolding fieldChecks inputChecks inputInRange
@@ -128,4 +133,5 @@ input-record file net e g =
     let here = rw g at e in
     let range : within 1 15 (allowed file net) ≡ true = listed _ here 9 net _ (search listing) in
     let place : inputInPlace file net ≡ true = listed _ here 5 net _ (search listing) in
-    (record { input = g; allowed-low = within-low _ _ _ range; allowed-high = within-high _ _ _ range }, place)
+    let spare : inputSpareZero file net ≡ true = listed _ here 7 net _ (search listing) in
+    (record { input = g; no-pins = spare-pins file net spare; allowed-low = within-low _ _ _ range; allowed-high = within-high _ _ _ range }, place)

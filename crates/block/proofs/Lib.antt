@@ -4,3 +4,4 @@ pub mod Gates
 pub mod Records
 pub mod Accepted
 pub mod Examples
+pub mod Frames

@@ -6,9 +6,10 @@ use lib.ListN.{length}
 use Rattle.block.specs.Record.{File, netCount, kind, contact, delay, pinCount, pin, rise, fall, allowed, isInput}
 use Rattle.block.specs.Block.{arrival, inputCount}
 
--- The record of an input whose fields passed. Its set is not empty.
+-- The record of an input whose fields passed. It has no pins, and its set is not empty.
 pub record InputRecord (file : File) (net : ℕ) : Type 0 where
   pub input : isInput file net ≡ true
+  pub no-pins : pinCount file net ≡ 0
   pub allowed-low : 1 ≤ allowed file net
   pub allowed-high : allowed file net ≤ 15
 

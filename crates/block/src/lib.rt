@@ -1,6 +1,9 @@
 // The block file: its records, what a gate's kind decides, and the reader.
 ghost use mathlib.Core.Path.{_≡_};
-ghost use Prim.Native.Nat.{_*_, _<_, max};
+ghost use Prim.Native.Nat.{_*_, _≤_, _<_, max};
+ghost use lib.ListN.{length};
+ghost use Rattle.laws.specs.Rewritten.{Rewritten};
+ghost use Rattle.block.specs.Record.{allowed};
 ghost use Rattle.block.specs.Verdict.{refusal};
 ghost use Rattle.block.specs.declared.ReadAnswer.the-variants.{Refused};
 ghost use Rattle.block.specs.Refusals.{readOf};
@@ -25,9 +28,6 @@ impl Net {
         20 * self.0
     }
 }
-
-// The number of a search case: the position of its record in the case store. It is never read as a net's number.
-pub struct Case(pub usize);
 
 // Document 01's refusal.
 pub struct Refusal {
@@ -87,4 +87,16 @@ pub fn read(file: &[u8]) -> ReadAnswer
         return refused_file(3);
     }
     reader::check_records(file, nets)
+}
+
+// Writes the codes of the frame's sets, a byte for each input.
+pub fn frame_codes(file: &[u8], inputs: usize, codes: &mut [u8])
+    requires { ⌜ (20 * inputs ≤ length (now file)) × (inputs ≤ 64) × (length (now codes) ≡ 64) ⌝ }
+    ensures { λ _. ⌜ Rewritten (allowed (now (file .entry))) 0 inputs (now (codes .entry)) (now (codes .exit)) ⌝ }
+{
+    let mut net: usize = 0;
+    while net < inputs {
+        codes[net] = record::allowed(file, Net(net)) as u8;
+        net += 1;
+    }
 }

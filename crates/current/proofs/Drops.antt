@@ -7,7 +7,7 @@ use native.Mathlib.Nat.{le-refl, mul-le-mul, mul-le-mul-left}
 use native.Mathlib.Omega.{arith}
 use lib.ListN.{length, getD, replicate}
 use Rattle.laws.specs.Below.{maxBelow, sumBelow}
-use Rattle.laws.proofs.Below.{max-next, max-same, max-at-most, max-beyond, sum-next, sum-same, sum-at-most, sum-within}
+use Rattle.laws.proofs.Below.{max-next, max-same, max-at-most, max-within, max-beyond, sum-next, sum-same, sum-at-most, sum-within}
 use Rattle.current.specs.Current.{Sheet, dropAt, dropOf}
 use Rattle.current.specs.Drawing.{sheetIn, QuietFrom}
 use Rattle.current.specs.Sums.{withContact, Summed}
@@ -25,6 +25,16 @@ pub drop-same : (table : List ℕ) (s s′ : Sheet) → ((c t : ℕ) → c < 16 
 unfolding dropOf dropAt
 drop-same table s s′ same =
     max-same _ _ _ (λ node _. max-same 512 _ _ (λ t h. sum-same 16 _ _ (λ c l. ap (λ x. getD table (16 * node + c) 0 * x) (same c t l h))))
+
+-- A bound of each current bounds the drop: a resistance has 16 bits.
+pub drop-within : (table : List ℕ) (s : Sheet) (bound : ℕ) → ((i : ℕ) → getD table i 0 < 65536) → ((c t : ℕ) → c < 16 → t < 512 → s c t ≤ bound)
+    → dropOf table s ≤ 16 * (65535 * bound)
+unfolding dropOf dropAt
+drop-within table s bound small each =
+    max-within _ _ _
+    (λ node _. max-within 512 _ _
+    (λ t h. sum-within 16 _ (65535 * bound)
+    (λ c l. mul-le-mul (let z = small (16 * node + c) in let low : getD table (16 * node + c) 0 ≤ 65535 = omega arith in low) (each c t l h))))
 
 -- The sums of a node, contact by contact.
 

@@ -2,41 +2,36 @@
 -- Assumes nothing.
 use Prim.Native.Nat.{ℕ, _≤_}
 use mathlib.Core.List.{List}
-use mathlib.Core.Path.{_≡_, refl, ap, sym, subst, _∙_}
+use mathlib.Core.Path.{_≡_, refl, subst}
 use native.Mathlib.Omega.{arith}
-use lib.ListN.{length, getD}
-use Rattle.laws.specs.Turn.{listBelow}
-use Rattle.laws.proofs.Turn.{list-same}
-use Rattle.excitation.specs.UncertaintySet.{decode, empty}
+use lib.ListN.{length}
+use Rattle.laws.specs.Rewritten.{Rewritten}
+use Rattle.excitation.specs.UncertaintySet.{setsIn}
 use Rattle.block.specs.Accepted.{AcceptedFile}
 use Rattle.block.specs.Block.{frame}
 use Rattle.block.specs.Record.{File, allowed}
-use Rattle.evaluation.specs.Evaluation.{setsIn, HasRows, Given, Evaluated}
+use Rattle.block.proofs.Frames.{frame-code, frame-sets}
+use Rattle.evaluation.specs.Evaluation.{HasRows, Given, Evaluated}
 use Rattle.evaluation.specs.declared.Currents.{Currents}
 use Rattle.evaluation.specs.declared.CurrentsAnswer.the-variants.{Flowing}
-use Rattle.envelope.specs.Envelope.{FrameCodes, FrameEvaluated}
+use Rattle.envelope.specs.Envelope.{FrameEvaluated}
 
-module _ {file : File} {nets inputs : ℕ} (accepted : AcceptedFile file nets inputs) {codes : List ℕ} (coded : FrameCodes file inputs codes) where
+module _ {file : File} {nets inputs : ℕ} (accepted : AcceptedFile file nets inputs) {given codes : List ℕ} (long : length given ≡ 64)
+    (coded : Rewritten (allowed file) 0 inputs given codes) where
   pub frame-given : {hops : ℕ} {sheet work : List ℕ} → 1 ≤ hops → length sheet ≡ 8192 → HasRows work nets → Given file nets inputs codes hops sheet work
-  frame-given some long rows = record {
+  frame-given some sheet-long rows = record {
     accepted = accepted;
     codes-low = record {
-      enough = omega (arith, coded .long, accepted .few-inputs);
-      low = λ net h. (let high = accepted .input net h .allowed-high in omega (arith, coded .at net h));
+      enough = omega (arith, long, coded .long, accepted .few-inputs);
+      low = λ net h. (let high = accepted .input net h .allowed-high in omega (arith, frame-code accepted coded net h));
     };
     some-hops = some;
-    sheet-long = long;
+    sheet-long = sheet-long;
     rows = rows;
   }
-
-  frame-sets : setsIn inputs codes ≡ frame file
-  unfolding setsIn frame
-  frame-sets =
-      list-same inputs (λ net. decode (getD codes net 0)) (λ net. decode (allowed file net)) empty (λ net h. ap decode (coded .at net h))
-      ∙ ap (λ n. listBelow n (λ net. decode (allowed file net))) (sym (accepted .input-count))
 
   pub frame-evaluated : {hops : ℕ} {table sheet : List ℕ} {currents : Currents} → Evaluated file (setsIn inputs codes) hops table currents sheet
       → FrameEvaluated file hops table (Flowing (currents .drop) (currents .quiet)) sheet
   frame-evaluated {hops} {table} {sheet} {currents} e =
-      let is : Evaluated file (frame file) hops table currents sheet = subst (λ sets. Evaluated file sets hops table currents sheet) frame-sets e in
+      let is : Evaluated file (frame file) hops table currents sheet = subst (λ sets. Evaluated file sets hops table currents sheet) (frame-sets accepted coded) e in
       record { answered = rw (is .drop, is .quiet) refl; written = is .sheet }

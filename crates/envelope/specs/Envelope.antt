@@ -1,10 +1,10 @@
 -- Envelope (document 01, "Envelope").
-use Prim.Native.Nat.{ℕ, _<_}
+use Prim.Native.Nat.{ℕ}
 use mathlib.Core.List.{List, [], _∷_, _++_}
 use mathlib.Core.Path.{_≡_}
-use lib.ListN.{length, getD}
+use lib.ListN.{length}
 use Rattle.block.specs.Block.{frame, quietTick}
-use Rattle.block.specs.Record.{File, netCount, allowed}
+use Rattle.block.specs.Record.{File, netCount}
 use Rattle.block.specs.Refusals.{readChecks}
 use Rattle.block.specs.Verdict.{Check, verdict}
 use Rattle.block.specs.declared.Verdict.{Verdict}
@@ -38,11 +38,6 @@ pub record Enveloped (file : File) (hops : ℕ) (table sheet work : List ℕ) (a
   pub answered : answer ≡ envelopeAnswer file hops table sheet work
   pub written : sheet′ ≡ sheetAfter (envelopeVerdict file hops table sheet work) (frameSheet hops file) sheet
   pub kept : WorkAfter (envelopeVerdict file hops table sheet work) work work′
-
--- The codes of the inputs' allowed excitations.
-pub record FrameCodes (file : File) (inputs : ℕ) (codes : List ℕ) : Type 0 where
-  pub long : length codes ≡ 64
-  pub at : (net : ℕ) → net < inputs → getD codes net 0 ≡ allowed file net
 
 -- An accepted call's answer and sheet.
 pub record FrameEvaluated (file : File) (hops : ℕ) (table : List ℕ) (answer : CurrentsAnswer) (sheet : List ℕ) : Type 0 where

@@ -1,16 +1,14 @@
 // Envelope: a ceiling on the current at each contact and tick, for every pattern of the frame.
 ghost use mathlib.Core.Path.{_≡_};
-ghost use Prim.Native.Nat.{_*_, _≤_};
+ghost use Prim.Native.Nat.{_≤_};
 ghost use lib.ListN.{length};
 ghost use Rattle.block.specs.Accepted.{AcceptedFile};
 ghost use Rattle.block.specs.Verdict.{verdict};
 ghost use Rattle.evaluation.specs.Evaluation.{HasRows};
-ghost use Rattle.envelope.specs.Envelope.{argumentChecks, FrameCodes, FrameEvaluated, Enveloped};
-use block::Net;
+ghost use Rattle.envelope.specs.Envelope.{argumentChecks, FrameEvaluated, Enveloped};
 use block::ReadAnswer;
 use block::Refusal;
 use block::Verdict;
-use block::record;
 use evaluation::CurrentsAnswer;
 use evaluation::arguments;
 
@@ -46,18 +44,6 @@ fn check_arguments(nets: usize, hops: u64, table: usize, sheet: usize, work: usi
     Verdict::Accepted
 }
 
-// The frame: the set of each input, from byte 18.
-fn frame_codes(file: &[u8], inputs: usize, codes: &mut [u8])
-    requires { ⌜ (20 * inputs ≤ length (now file)) × (inputs ≤ 64) × (length (now codes) ≡ 64) ⌝ }
-    ensures { λ _. ⌜ FrameCodes (now (file .entry)) inputs (now (codes .exit)) ⌝ }
-{
-    let mut net: usize = 0;
-    while net < inputs {
-        codes[net] = record::allowed(file, Net(net)) as u8;
-        net += 1;
-    }
-}
-
 // The envelope of an accepted file's frame.
 fn evaluate_frame(
     file: &[u8],
@@ -72,7 +58,7 @@ fn evaluate_frame(
     ensures { λ r. ⌜ FrameEvaluated (now (file .entry)) hops (now (table .entry)) r (now (sheet .exit)) ⌝ }
 {
     let mut codes = [0u8; 64];
-    frame_codes(file, inputs, &mut codes);
+    block::frame_codes(file, inputs, &mut codes);
     let currents = evaluation::evaluate(file, nets, inputs, &codes, hops, table, sheet, work);
     CurrentsAnswer::Flowing {
         drop: currents.drop,

@@ -15,7 +15,7 @@ use Rattle.laws.specs.Turn.{inTurn, listBelow}
 use Rattle.laws.proofs.Below.{max-same, sum-next, sum-within}
 use Rattle.laws.proofs.Turn.{turn-next, turn-is, list-at, list-long, list-next, list-same}
 use Rattle.excitation.specs.Excitation.{l, hl, lh}
-use Rattle.excitation.specs.UncertaintySet.{UncertaintySet, member, decode, empty, single, Held}
+use Rattle.excitation.specs.UncertaintySet.{UncertaintySet, member, decode, empty, single, Held, setsIn}
 use Rattle.block.specs.Accepted.{AcceptedFile, GateRecord}
 use Rattle.block.specs.Block.{latestPin, arrivalFrom, arrivals, arrival}
 use Rattle.block.specs.Record.{File, netCount, contact, delay, pinCount, pin, isInput}
@@ -30,7 +30,7 @@ use Rattle.current.specs.Drawing.{transitionsIn, Drawable, Drawn}
 use Rattle.current.specs.Words.{Cleared}
 use Rattle.current.proofs.Contacts.{part-of-gate, part-of-input}
 use Rattle.current.proofs.Sheets.{sheet-is}
-use Rattle.evaluation.specs.Evaluation.{setsIn, HasRows, InputsMade}
+use Rattle.evaluation.specs.Evaluation.{HasRows, InputsMade}
 use Rattle.evaluation.proofs.Rows.{has-row, waveform-kept, arrival-kept, settled-kept}
 
 -- The transitions of every net.

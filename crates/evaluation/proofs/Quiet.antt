@@ -1,6 +1,6 @@
 -- The quiet tick: no contact of an accepted block draws current after it.
 -- Assumes nothing.
-use Prim.Native.Nat.{ℕ, _+_, _*_, _-_, _≤_, _<_}
+use Prim.Native.Nat.{ℕ, _+_, _*_, _-_, _≤_, _<_, _^_}
 use mathlib.Core.Bool.{false, cond}
 use mathlib.Core.List.{List}
 use mathlib.Core.Path.{_≡_, refl, ap, sym, _∙_}
@@ -24,7 +24,7 @@ use Rattle.waveform.proofs.Settles.{waveformOf, net-settles}
 use Rattle.current.specs.Current.{gateCurrent, part, contactCurrent, transitionsOf, sheetOf, Sheet, sheetWords, dropOf}
 use Rattle.current.specs.Drawing.{sheetIn, QuietFrom}
 use Rattle.current.proofs.Contacts.{part-of-gate, part-of-input}
-use Rattle.current.proofs.Drops.{drop-same}
+use Rattle.current.proofs.Drops.{drop-same, drop-within}
 use Rattle.current.proofs.Gates.{current-quiet}
 use Rattle.current.proofs.Sheets.{sheet-at}
 use Rattle.current.proofs.Ticks.{ticks-at-most}
@@ -108,3 +108,9 @@ module _ (file : File) (nets inputs : ℕ) (accepted : AcceptedFile file nets in
 pub drop-of-words : (table words : List ℕ) (s : Sheet) → words ≡ sheetWords s → dropOf table (sheetIn words) ≡ dropOf table s
 drop-of-words table words s e =
     drop-same table (sheetIn words) s (λ c t lc lt. ap (λ ws. getD ws (512 * c + t) 0) e ∙ sheet-at s c t lc lt)
+
+-- No drop reaches 2 ^ 46: at most 1,024 gates draw at most 65,535 each.
+pub drop-low : (table words : List ℕ) (s : Sheet) (nets drop : ℕ) → words ≡ sheetWords s → drop ≡ dropOf table (sheetIn words)
+    → ((i : ℕ) → getD table i 0 < 65536) → ((i : ℕ) → getD words i 0 ≤ nets * 65535) → nets ≤ 1024 → drop < 2 ^ 46
+drop-low table words s nets drop is e small most few =
+    omega (arith, e, drop-within table (sheetIn words) 67107840 small (λ c t h l. omega (arith, most (512 * c + t))))

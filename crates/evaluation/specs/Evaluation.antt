@@ -1,10 +1,9 @@
 -- Evaluation of a block: the sheet of a pattern's simulation and of a case's envelope, and what the code makes of them.
-use Prim.Native.Nat.{ℕ, _*_, _≤_, _<_}
+use Prim.Native.Nat.{ℕ, _*_, _≤_, _<_, _^_}
 use mathlib.Core.List.{List}
 use mathlib.Core.Path.{_≡_}
 use lib.ListN.{length, getD}
-use Rattle.laws.specs.Turn.{listBelow}
-use Rattle.excitation.specs.UncertaintySet.{UncertaintySet, decode}
+use Rattle.excitation.specs.UncertaintySet.{UncertaintySet, decode, setsIn}
 use Rattle.excitation.specs.declared.Excitation.{Excitation}
 use Rattle.block.specs.Accepted.{AcceptedFile}
 use Rattle.block.specs.Block.{arrivals, quietTick}
@@ -21,10 +20,6 @@ simulatedSheet = sheetOf simulation
 -- The envelope of a case, given by the sets of its inputs.
 abbrev pub envelopeSheet : ℕ → File → List UncertaintySet → Sheet
 envelopeSheet hops = sheetOf (envelope hops)
-
--- The sets of the inputs, from their codes: a byte for each input.
-unfoldable pub setsIn : ℕ → List ℕ → List UncertaintySet
-setsIn inputs codes = listBelow inputs (λ net. decode (getD codes net 0))
 
 -- A work buffer with a row for each net.
 pub record HasRows (work : List ℕ) (nets : ℕ) : Type 0 where
@@ -54,11 +49,13 @@ pub record Given (file : File) (nets inputs : ℕ) (codes : List ℕ) (hops : �
 -- The sheet once every gate is drawn, and the arrivals in the work buffer.
 pub record BlockDrawn (file : File) (nets inputs : ℕ) (codes : List ℕ) (hops : ℕ) (work words after : List ℕ) : Type 0 where
   pub sheet : words ≡ sheetWords (envelopeSheet hops file (setsIn inputs codes))
+  pub most : (i : ℕ) → getD words i 0 ≤ nets * 65535
   pub times : arrivalsIn after nets ≡ arrivals file nets
   pub long : length after ≡ length work
 
--- What an evaluation answers: the drop and the quiet tick, and the sheet.
+-- What an evaluation answers: the drop and the quiet tick, and the sheet. 2 ^ 46 is above every drop.
 pub record Evaluated (file : File) (sets : List UncertaintySet) (hops : ℕ) (table : List ℕ) (answer : Currents) (words : List ℕ) : Type 0 where
   pub sheet : words ≡ sheetWords (envelopeSheet hops file sets)
   pub drop : answer .drop ≡ dropOf table (envelopeSheet hops file sets)
+  pub low : answer .drop < 2 ^ 46
   pub quiet : answer .quiet ≡ quietTick file

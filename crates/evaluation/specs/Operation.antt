@@ -14,10 +14,13 @@ abbrev pub answerAfter : Verdict → ℕ → ℕ → CurrentsAnswer
 answerAfter Accepted drop quiet = answer.Flowing drop quiet
 answerAfter (Refused r) drop quiet = answer.Refused r
 
--- An accepted call writes its sheet; a refusal leaves every lent buffer untouched.
+-- An accepted call writes a buffer; a refusal leaves every lent buffer untouched.
+abbrev pub bufferAfter : Verdict → List ℕ → List ℕ → List ℕ
+bufferAfter Accepted written given = written
+bufferAfter (Refused r) written given = given
+
 abbrev pub sheetAfter : Verdict → Sheet → List ℕ → List ℕ
-sheetAfter Accepted sheet given = sheetWords sheet
-sheetAfter (Refused r) sheet given = given
+sheetAfter v sheet given = bufferAfter v (sheetWords sheet) given
 
 -- The work buffer's contents after an accepted call are free.
 abbrev pub WorkAfter : Verdict → List ℕ → List ℕ → Type 0

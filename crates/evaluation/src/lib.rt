@@ -1,11 +1,12 @@
 // Evaluation of a block whose inputs have given sets: one engine for the envelope and the simulation.
 ghost use mathlib.Core.Path.{_≡_};
 ghost use Prim.Native.Nat.{_+_, _-_, _≤_, _<_};
+ghost use Rattle.excitation.specs.UncertaintySet.{setsIn};
 ghost use Rattle.block.specs.Record.{HasRecord, delay, rise, fall};
 ghost use Rattle.block.specs.Block.{arrivals, quietTick};
 ghost use Rattle.block.specs.Accepted.{AcceptedFile};
 ghost use Rattle.waveform.specs.Rows.{HasRow, arrivalIn, arrivalsIn};
-ghost use Rattle.evaluation.specs.Evaluation.{HasRows, InputCodes, InputsMade, Given, BlockDrawn, Evaluated, setsIn};
+ghost use Rattle.evaluation.specs.Evaluation.{HasRows, InputCodes, InputsMade, Given, BlockDrawn, Evaluated};
 use block::Net;
 use block::Refusal;
 use block::record;

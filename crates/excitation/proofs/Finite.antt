@@ -1,10 +1,10 @@
 -- A fact of every excitation and of every uncertainty set, by one case for each excitation or one computed test over all sets.
 -- Assumes nothing.
-use mathlib.Core.Bool.{Bool, true, false, _&&_}
+use mathlib.Core.Bool.{Bool, true, false, not, _&&_, _||_}
 use mathlib.Core.Path.{_≡_}
-use Rattle.laws.proofs.Tests.{and-left, and-right}
+use Rattle.laws.proofs.Tests.{and-left, and-right, implied}
 use Rattle.excitation.specs.Excitation.{excitation, l, h, hl, lh}
-use Rattle.excitation.specs.UncertaintySet.{UncertaintySet}
+use Rattle.excitation.specs.UncertaintySet.{UncertaintySet, member, _∈_}
 use Rattle.excitation.specs.declared.Excitation.{Excitation}
 
 -- What holds of l, h, hl and lh holds of every excitation.
@@ -40,3 +40,14 @@ every-at p e s =
     (s .has-h))
     (s .has-hl))
     (s .has-lh)
+
+-- Whether a test passes at every set that has a given member.
+abbrev whereMember : (UncertaintySet → Excitation → Bool) → Excitation → Bool
+whereMember test e = everySet (λ s. not (member e s) || test s e)
+
+-- A test of sets and their members that was computed for all of them.
+pub at-members : (test : UncertaintySet → Excitation → Bool) → whereMember test l ≡ true → whereMember test h ≡ true
+    → whereMember test hl ≡ true → whereMember test lh ≡ true → (s : UncertaintySet) (e : Excitation) → e ∈ s → test s e ≡ true
+at-members test at-l at-h at-hl at-lh s e m =
+    implied (member e s) (test s e)
+    (every-at (λ s. not (member e s) || test s e) (for-each (λ e. whereMember test e ≡ true) at-l at-h at-hl at-lh e) s) m

@@ -1,4 +1,5 @@
 pub mod Finite
+pub mod Bytes
 pub mod Sets
 pub mod Held
 pub mod OneMember

@@ -11,10 +11,10 @@ use Rattle.excitation.proofs.Sets.{member-where, same-self, same-gives,
 pub member-single : (e x : Excitation) → member e (single x) ≡ same e x
 member-single e x = member-where (λ e. same e x) e
 
-in-single : (x : Excitation) → x ∈ single x
+pub in-single : (x : Excitation) → x ∈ single x
 in-single x = member-single x x ∙ same-self x
 
-of-single : (x e : Excitation) → e ∈ single x → e ≡ x
+pub of-single : (x e : Excitation) → e ∈ single x → e ≡ x
 of-single x e m = same-gives e x (sym (member-single e x) ∙ m)
 
 -- A set with the one member x.

@@ -1,5 +1,9 @@
 -- Excitations (document 01, "Excitations and sets").
-use mathlib.Core.Bool.{Bool, true, false, not, _&&_, _||_, xor, Bool·beq}
+use Prim.Native.Nat.{ℕ}
+use mathlib.Core.Bool.{Bool, true, false, not, cond, _&&_, _||_, xor, Bool·beq}
+use mathlib.Core.List.{List, [], _∷_}
+use lib.ListN.{getD}
+use Rattle.laws.specs.Turn.{listBelow}
 use Rattle.excitation.specs.declared.Join.the-variants as by
 use Rattle.excitation.specs.declared.Excitation.{Excitation}
 use Rattle.excitation.specs.declared.Join.{Join}
@@ -53,3 +57,14 @@ levelsOf by.Xor = xor
 -- Whether two excitations are the same one.
 abbrev pub same : Excitation → Excitation → Bool
 same a b = Bool·beq (a .before) (b .before) && Bool·beq (a .after) (b .after)
+
+-- A byte of a pattern: 0 l, 1 h, 2 hl, 3 lh. The excitation of a byte, and the byte of an excitation.
+unfoldable pub excitationOf : ℕ → Excitation
+excitationOf byte = getD (l ∷ h ∷ hl ∷ lh ∷ []) byte l
+
+unfoldable pub byteOf : Excitation → ℕ
+byteOf e = cond (e .before) (cond (e .after) 1 2) (cond (e .after) 3 0)
+
+-- Byte i of a pattern is for input net i; bytes past the inputs are not read.
+unfoldable pub patternOf : ℕ → List ℕ → List Excitation
+patternOf inputs bytes = listBelow inputs (λ net. excitationOf (getD bytes net 0))

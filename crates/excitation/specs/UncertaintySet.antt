@@ -2,8 +2,11 @@
 use Prim.Native.Nat.{ℕ, _+_, _*_, _/_, _%_}
 use mathlib.Core.Path.{_≡_}
 use mathlib.Core.Bool.{Bool, true, false, cond, _&&_, _||_}
+use mathlib.Core.List.{List}
 use lib.Dec.{eqb}
+use lib.ListN.{getD}
 use Rattle.laws.specs.Below.{digit}
+use Rattle.laws.specs.Turn.{listBelow}
 use Rattle.excitation.specs.declared.Excitation.{Excitation}
 use Rattle.excitation.specs.Excitation.{TwoLevel, l, h, hl, lh, same, joinExcitations, invertExcitation, heldBefore, heldAfter}
 
@@ -56,6 +59,10 @@ decode n = record {
   has-hl = eqb (n / 4 % 2) 1;
   has-lh = eqb (n / 8 % 2) 1;
 }
+
+-- The sets of the inputs, from their codes: a byte for each input.
+unfoldable pub setsIn : ℕ → List ℕ → List UncertaintySet
+setsIn inputs codes = listBelow inputs (λ net. decode (getD codes net 0))
 
 -- Whether e is the join of a and a member of t, and whether it is the join of a member of s and a member of t.
 abbrev pub joinOfOne : TwoLevel → Excitation → UncertaintySet → Excitation → Bool

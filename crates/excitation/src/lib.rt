@@ -1,7 +1,7 @@
 // Excitations and uncertainty sets, joined by a constant table.
 ghost use mathlib.Core.Path.{_≡_};
 ghost use Prim.Native.Nat.{_≤_};
-ghost use Rattle.excitation.specs.Excitation.{levelsOf};
+ghost use Rattle.excitation.specs.Excitation.{levelsOf, excitationOf};
 ghost use Rattle.excitation.specs.UncertaintySet.{code, decode, member, single, joinSets, invertSet, heldBeforeSet, heldAfterSet};
 ghost use Rattle.excitation.specs.Table.{startOf, joinTable};
 
@@ -37,6 +37,18 @@ pub const LH: Excitation = Excitation {
     before: false,
     after: true,
 };
+
+// The excitation of a pattern's byte. Bytes above 3 are refused before.
+pub fn excitation_of(byte: u8) -> Excitation
+    ensures { λ r. ⌜ r ≡ excitationOf byte ⌝ }
+{
+    match byte {
+        1 => H,
+        2 => HL,
+        3 => LH,
+        _ => L,
+    }
+}
 
 // How a multi-pin gate joins its pins.
 pub enum Join {

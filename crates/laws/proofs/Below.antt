@@ -2,14 +2,16 @@
 -- Assumes nothing.
 use Prim.Native.Nat.{ℕ, zero, suc, _+_, _*_, _≤_, _<_, max}
 use mathlib.Core.Path.{_≡_, refl}
-use mathlib.Core.Bool.{Bool, true, false}
+use mathlib.Core.Bool.{Bool, true, false, cond}
 use mathlib.Core.Logic.{⊎-elim}
 use native.Mathlib.Nat.{not-suc-le-zero, eq-or-lt-of-le, le-of-suc-le-suc}
 use native.Mathlib.Numerals.{add-one}
 use native.Mathlib.Omega.{arith}
+use lib.Dec.{ltb}
+use borrow.Author.Tests.{ltb-true, ltb-false}
 use borrow.Table.Steps.{cases}
-use Rattle.laws.specs.Below.{allBelow, maxBelow, sumBelow, digit, countBelow}
-use Rattle.laws.proofs.Tests.{and-left, and-right, and-both, and-second-fails}
+use Rattle.laws.specs.Below.{allBelow, anyBelow, maxBelow, firstGreatest, sumBelow, digit, countBelow}
+use Rattle.laws.proofs.Tests.{and-left, and-right, and-both, and-second-fails, or-first, or-second}
 
 -- One number more, as a loop counts.
 
@@ -17,9 +19,17 @@ pub all-next : (n : ℕ) (p : ℕ → Bool) → allBelow n p ≡ true → p n �
 unfolding allBelow
 all-next n p s t = rw add-one (and-both s t)
 
+pub any-next : (n : ℕ) (p : ℕ → Bool) → anyBelow n p ≡ false → p n ≡ false → anyBelow (n + 1) p ≡ false
+unfolding anyBelow
+any-next n p s t = rw (add-one, s, t) refl
+
 pub max-next : (n : ℕ) (f : ℕ → ℕ) → maxBelow (n + 1) f ≡ max (maxBelow n f) (f n)
 unfolding maxBelow
 max-next n f = rw add-one refl
+
+pub first-greatest-next : (n : ℕ) (f : ℕ → ℕ) → firstGreatest (n + 1) f ≡ cond (ltb (f (firstGreatest n f)) (f n)) n (firstGreatest n f)
+unfolding firstGreatest
+first-greatest-next n f = rw add-one refl
 
 pub sum-next : (n : ℕ) (f : ℕ → ℕ) → sumBelow (n + 1) f ≡ sumBelow n f + f n
 unfolding sumBelow
@@ -43,6 +53,20 @@ unfolding allBelow
 all-fails zero p k h e = absurd (not-suc-le-zero h)
 all-fails (suc n) p k h e =
     ⊎-elim (λ (q : k ≡ n). and-second-fails (allBelow n p) (rw q at e)) (λ l. rw (all-fails n p k l e) refl)
+    (eq-or-lt-of-le (le-of-suc-le-suc h))
+
+-- Tests that are the same number by number.
+pub all-same : (n : ℕ) (p q : ℕ → Bool) → ((k : ℕ) → k < n → p k ≡ q k) → allBelow n p ≡ allBelow n q
+unfolding allBelow
+all-same zero p q same = refl
+all-same (suc n) p q same = rw (all-same n p q (λ k h. same k (omega arith)), same n (omega arith)) refl
+
+-- One number that passes is enough.
+pub any-found : (n : ℕ) (p : ℕ → Bool) (k : ℕ) → k < n → p k ≡ true → anyBelow n p ≡ true
+unfolding anyBelow
+any-found zero p k h e = absurd (not-suc-le-zero h)
+any-found (suc n) p k h e =
+    ⊎-elim (λ (q : k ≡ n). or-second (anyBelow n p) (rw q at e)) (λ l. or-first (p n) (any-found n p k l e))
     (eq-or-lt-of-le (le-of-suc-le-suc h))
 
 -- No value below n is above the greatest.
@@ -95,6 +119,24 @@ count-first (suc n) p f k h =
     (λ m. let rest = count-first n p (λ j l u. f j (omega arith) u) k m in (λ l. rest .0 (omega arith), λ l. rest .1 (omega arith)))
     (eq-or-lt-of-le (le-of-suc-le-suc h)))
 
+-- Tests that are the same, number by number.
+
+pub any-same : (n : ℕ) (p q : ℕ → Bool) → ((k : ℕ) → k < n → p k ≡ q k) → anyBelow n p ≡ anyBelow n q
+unfolding anyBelow
+any-same zero p q same = refl
+any-same (suc n) p q same = rw (any-same n p q (λ k h. same k (omega arith)), same n (omega arith)) refl
+
+pub count-same : (n : ℕ) (p q : ℕ → Bool) → ((k : ℕ) → k < n → p k ≡ q k) → countBelow n p ≡ countBelow n q
+unfolding countBelow
+count-same zero p q same = refl
+count-same (suc n) p q same = rw (count-same n p q (λ k h. same k (omega arith)), same n (omega arith)) refl
+
+-- Where none passes, the count is 0.
+pub count-none : (n : ℕ) (p : ℕ → Bool) → ((k : ℕ) → k < n → p k ≡ false) → countBelow n p ≡ 0
+unfolding countBelow
+count-none zero p none = refl
+count-none (suc n) p none = rw (count-none n p (λ k h. none k (omega arith)), none n (omega arith)) refl
+
 -- The greatest and the sum of values that are the same, or no greater, number by number.
 
 pub max-same : (n : ℕ) (f g : ℕ → ℕ) → ((k : ℕ) → k < n → f k ≡ g k) → maxBelow n f ≡ maxBelow n g
@@ -117,7 +159,12 @@ unfolding sumBelow
 sum-at-most zero f g less = omega arith
 sum-at-most (suc n) f g less = omega (arith, sum-at-most n f g (λ k h. less k (omega arith)), less n (omega arith))
 
--- A bound of each value bounds the sum.
+-- A bound of each value bounds the greatest, and the sum.
+pub max-within : (n : ℕ) (f : ℕ → ℕ) (bound : ℕ) → ((k : ℕ) → k < n → f k ≤ bound) → maxBelow n f ≤ bound
+unfolding maxBelow
+max-within zero f bound each = omega arith
+max-within (suc n) f bound each = omega (arith, max-within n f bound (λ k h. each k (omega arith)), each n (omega arith))
+
 pub sum-within : (n : ℕ) (f : ℕ → ℕ) (bound : ℕ) → ((k : ℕ) → k < n → f k ≤ bound) → sumBelow n f ≤ n * bound
 unfolding sumBelow
 sum-within zero f bound each = omega arith
@@ -131,3 +178,50 @@ max-beyond (suc m) n f h none =
     ⊎-elim (λ (e : n ≡ suc m). rw e refl)
     (λ l. omega (arith, max-beyond m n f (le-of-suc-le-suc l) (λ k low high. none k low (omega arith)), none m (le-of-suc-le-suc l) (omega arith)))
     (eq-or-lt-of-le h)
+
+-- The first number at which f is greatest: it is below n where there is one, f is greatest at it, and f is less before it.
+
+first-greatest-at-most : (n : ℕ) (f : ℕ → ℕ) → firstGreatest n f ≤ n
+unfolding firstGreatest
+first-greatest-at-most zero f = omega arith
+first-greatest-at-most (suc n) f =
+    let h = first-greatest-at-most n f in
+    cases (ltb (f (firstGreatest n f)) (f n)) (λ t. rw t (omega arith)) (λ t. rw t (omega arith))
+
+pub first-greatest-inside : (n : ℕ) (f : ℕ → ℕ) → 1 ≤ n → firstGreatest n f < n
+unfolding firstGreatest
+first-greatest-inside zero f l = absurd (omega arith)
+first-greatest-inside (suc n) f l =
+    let h = first-greatest-at-most n f in
+    cases (ltb (f (firstGreatest n f)) (f n)) (λ t. rw t (omega arith)) (λ t. rw t (omega arith))
+
+pub first-greatest-is : (n : ℕ) (f : ℕ → ℕ) → 1 ≤ n → f (firstGreatest n f) ≡ maxBelow n f
+unfolding firstGreatest maxBelow
+first-greatest-is zero f l = absurd (omega arith)
+first-greatest-is (suc zero) f l = cases (ltb (f 0) (f 0)) (λ t. rw t (omega arith)) (λ t. rw t (omega arith))
+first-greatest-is (suc (suc n)) f l =
+    let best = firstGreatest (suc n) f in
+    let h : f best ≡ maxBelow (suc n) f = first-greatest-is (suc n) f (omega arith) in
+    cases (ltb (f best) (f (suc n)))
+    (λ t. let m = ltb-true (f best) (f (suc n)) t in rw t (omega arith))
+    (λ t. let m = ltb-false (f best) (f (suc n)) t in rw t (omega arith))
+
+pub first-greatest-before : (n : ℕ) (f : ℕ → ℕ) (k : ℕ) → k < firstGreatest n f → f k < f (firstGreatest n f)
+unfolding firstGreatest
+first-greatest-before zero f k = λ h. absurd (not-suc-le-zero h)
+first-greatest-before (suc n) f k =
+    let best = firstGreatest n f in
+    cases (ltb (f best) (f n))
+    (λ t. rw t (λ h. omega (arith, ltb-true (f best) (f n) t, max-at n f k h, first-greatest-is n f (omega arith))))
+    (λ t. rw t (first-greatest-before n f k))
+
+pub first-greatest-same : (n : ℕ) (f g : ℕ → ℕ) → ((k : ℕ) → k < n → f k ≡ g k) → firstGreatest n f ≡ firstGreatest n g
+unfolding firstGreatest
+first-greatest-same zero f g same = refl
+first-greatest-same (suc n) f g same =
+    rw (
+      first-greatest-same n f g (λ k h. same k (omega arith)),
+      same (firstGreatest n g) (omega (arith, first-greatest-at-most n g)),
+      same n (omega arith),
+    )
+    refl

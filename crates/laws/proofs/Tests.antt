@@ -1,7 +1,7 @@
 -- Laws of tests: conjunctions and disjunctions that pass or fail.
 -- Assumes nothing.
 use mathlib.Core.Path.{_≡_, refl, sym, _∙_}
-use mathlib.Core.Bool.{Bool, true, false, not, _&&_, _||_, and-eq-true-iff}
+use mathlib.Core.Bool.{Bool, true, false, not, _&&_, _||_, and-eq-true-iff, false≢true}
 use borrow.Author.Tests.{not-true, not-false}
 
 pub and-left : (a b : Bool) → (a && b) ≡ true → a ≡ true
@@ -37,3 +37,8 @@ refuted {s} e h = sym e ∙ not-true s h
 
 pub confirmed : {s t : Bool} → s ≡ t → not s ≡ false → t ≡ true
 confirmed {s} e h = sym e ∙ not-false s h
+
+-- A test that passes wherever another does.
+pub implied : (a b : Bool) → (not a || b) ≡ true → a ≡ true → b ≡ true
+implied true b e t = e
+implied false b e t = absurd (false≢true t)

@@ -1,6 +1,7 @@
 -- Tests, counts and the greatest over the numbers below n. Each is defined by one number more.
 use Prim.Native.Nat.{ℕ, zero, suc, _+_, max}
-use mathlib.Core.Bool.{Bool, true, false, _&&_, _||_}
+use mathlib.Core.Bool.{Bool, true, false, cond, _&&_, _||_}
+use lib.Dec.{ltb}
 
 -- Whether p passes at every number below n.
 unfoldable pub allBelow : ℕ → (ℕ → Bool) → Bool
@@ -16,6 +17,11 @@ anyBelow (suc n) p = anyBelow n p || p n
 unfoldable pub maxBelow : ℕ → (ℕ → ℕ) → ℕ
 maxBelow zero f = 0
 maxBelow (suc n) f = max (maxBelow n f) (f n)
+
+-- The first number below n at which f is greatest, 0 where there is none.
+unfoldable pub firstGreatest : ℕ → (ℕ → ℕ) → ℕ
+firstGreatest zero f = 0
+firstGreatest (suc n) f = let best = firstGreatest n f in cond (ltb (f best) (f n)) n best
 
 -- The sum of the values of f below n.
 unfoldable pub sumBelow : ℕ → (ℕ → ℕ) → ℕ

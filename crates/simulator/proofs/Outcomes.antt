@@ -17,6 +17,7 @@ use Rattle.block.proofs.Accepted.{accepted}
 use Rattle.block.proofs.Verdicts.{passed}
 use Rattle.current.specs.Current.{dropOf}
 use Rattle.evaluation.specs.Operation.{answerAfter, sheetAfter, WorkAfter}
+use Rattle.evaluation.specs.declared.Currents.{Currents}
 use Rattle.evaluation.specs.declared.CurrentsAnswer.{CurrentsAnswer}
 use Rattle.evaluation.specs.declared.CurrentsAnswer.the-variants as answer
 use Rattle.evaluation.proofs.Operations.{after-refusal, after-counts}
@@ -64,6 +65,8 @@ module _ (file : File) (table sheet pattern work : List ℕ) where
         → Simulated file table sheet pattern work (answer.Refused r) sheet work
     argument-refused r e = by-verdict (verdict-is.Refused r) _ _ _ (verdict-after ∙ e) refl refl refl
 
-    pub call-accepted : (r : CurrentsAnswer) (sheet′ work′ : List ℕ) → verdict (sizes ++ bytesFrom file pattern 0 inputs) ≡ verdict-is.Accepted
-        → PatternEvaluated file table pattern r sheet′ → Simulated file table sheet pattern work r sheet′ work′
-    call-accepted r sheet′ work′ e g = by-verdict verdict-is.Accepted r sheet′ work′ (verdict-after ∙ e) (g .answered) (g .written) tt
+    pub call-accepted : (currents : Currents) (sheet′ work′ : List ℕ) → verdict (sizes ++ bytesFrom file pattern 0 inputs) ≡ verdict-is.Accepted
+        → PatternEvaluated file table pattern currents sheet′
+        → Simulated file table sheet pattern work (answer.Flowing (currents .drop) (currents .quiet)) sheet′ work′
+    call-accepted currents sheet′ work′ e g =
+        by-verdict verdict-is.Accepted _ sheet′ work′ (verdict-after ∙ e) (rw (g .drop, g .quiet) refl) (g .sheet) tt

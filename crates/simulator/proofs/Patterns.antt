@@ -12,8 +12,8 @@ use lib.ListN.{getD}
 use Rattle.laws.proofs.Pairs.{pairs-list}
 use Rattle.laws.proofs.Tests.{and-right}
 use Rattle.laws.proofs.Turn.{list-map, list-same}
-use Rattle.excitation.specs.Excitation.{l}
-use Rattle.excitation.specs.UncertaintySet.{_∈_, decode, empty, single}
+use Rattle.excitation.specs.Excitation.{excitationOf, patternOf}
+use Rattle.excitation.specs.UncertaintySet.{_∈_, decode, empty, single, setsIn}
 use Rattle.excitation.proofs.Codes.{decode-code}
 use Rattle.block.specs.Block.{frame, inputCount, Choice}
 use Rattle.block.specs.Record.{File}
@@ -21,17 +21,7 @@ use Rattle.block.specs.Verdict.{check, refusal, verdict}
 use Rattle.block.specs.declared.Verdict.{Verdict}
 use Rattle.block.specs.declared.Verdict.the-variants as verdict-is
 use Rattle.block.proofs.Verdicts.{passes, fails, all-passed, passed}
-use Rattle.evaluation.specs.Evaluation.{setsIn}
-use Rattle.simulator.specs.Simulate.{excitationOf, patternOf, byteAllowed, bytesFrom, PatternCodes}
-
--- A byte that is none of 1, 2 and 3 stands for l.
-pub byte-other : (byte : ℕ) → (byte ≡ 1 → ⊥) → (byte ≡ 2 → ⊥) → (byte ≡ 3 → ⊥) → excitationOf byte ≡ l
-unfolding excitationOf
-byte-other zero a b c = refl
-byte-other (suc zero) a b c = absurd (a refl)
-byte-other (suc (suc zero)) a b c = absurd (b refl)
-byte-other (suc (suc (suc zero))) a b c = absurd (c refl)
-byte-other (suc (suc (suc (suc n)))) a b c = refl
+use Rattle.simulator.specs.Simulate.{byteAllowed, bytesFrom, PatternCodes}
 
 -- The bytes from a net on, one by one.
 

@@ -5,8 +5,8 @@ use mathlib.Core.List.{List, [], _∷_, map}
 use mathlib.Core.Path.{_≡_, refl, ap, sym, subst, _∙_}
 use native.Mathlib.Omega.{arith}
 use lib.ListN.{length}
-use Rattle.excitation.specs.Excitation.{same, hl, lh}
-use Rattle.excitation.specs.UncertaintySet.{member, single}
+use Rattle.excitation.specs.Excitation.{same, hl, lh, patternOf}
+use Rattle.excitation.specs.UncertaintySet.{member, single, setsIn}
 use Rattle.excitation.specs.declared.Excitation.{Excitation}
 use Rattle.excitation.proofs.Codes.{code-below}
 use Rattle.excitation.proofs.OneMember.{member-single}
@@ -15,10 +15,9 @@ use Rattle.block.specs.Record.{File, netCount}
 use Rattle.waveform.specs.Waveform.{Waveform, simulation, envelope, waveforms}
 use Rattle.waveform.proofs.Singles.{singles, waveforms-single}
 use Rattle.current.specs.Current.{ticksWhere, transitionsOf, contactCurrent, sheetOf}
-use Rattle.evaluation.specs.Evaluation.{simulatedSheet, envelopeSheet, setsIn, HasRows, Given, Evaluated}
+use Rattle.evaluation.specs.Evaluation.{simulatedSheet, envelopeSheet, HasRows, Given, Evaluated}
 use Rattle.evaluation.specs.declared.Currents.{Currents}
-use Rattle.evaluation.specs.declared.CurrentsAnswer.the-variants.{Flowing}
-use Rattle.simulator.specs.Simulate.{patternOf, PatternCodes, PatternEvaluated, patternSheet}
+use Rattle.simulator.specs.Simulate.{PatternCodes, PatternEvaluated, patternSheet}
 use Rattle.simulator.proofs.Patterns.{pattern-sets}
 
 ticks-single : (e : Excitation) (t : ℕ) (xs : List Excitation) → ticksWhere (member e) t (map single xs) ≡ ticksWhere (same e) t xs
@@ -58,7 +57,10 @@ module _ {file : File} {nets inputs : ℕ} (accepted : AcceptedFile file nets in
       ∙ ap (λ n. simulatedSheet file (patternOf n pattern)) (sym (accepted .input-count))
 
   pub pattern-evaluated : {hops : ℕ} {table sheet : List ℕ} {currents : Currents} → 128 ≤ hops
-      → Evaluated file (setsIn inputs codes) hops table currents sheet
-      → PatternEvaluated file table pattern (Flowing (currents .drop) (currents .quiet)) sheet
-  pattern-evaluated {hops} enough e =
-      record { answered = rw (e .drop, e .quiet, simulates hops enough) refl; written = e .sheet ∙ rw (simulates hops enough) refl }
+      → Evaluated file (setsIn inputs codes) hops table currents sheet → PatternEvaluated file table pattern currents sheet
+  pattern-evaluated {hops} enough e = record {
+    drop = e .drop ∙ rw (simulates hops enough) refl;
+    quiet = e .quiet;
+    low = e .low;
+    sheet = e .sheet ∙ rw (simulates hops enough) refl;
+  }

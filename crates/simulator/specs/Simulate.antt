@@ -1,33 +1,23 @@
 -- Simulate (document 01, "Levels and simulation").
-use Prim.Native.Nat.{ℕ, zero, suc, _<_}
+use Prim.Native.Nat.{ℕ, zero, suc, _<_, _^_}
 use mathlib.Core.Bool.{Bool, _&&_}
 use mathlib.Core.List.{List, [], _∷_, _++_}
 use mathlib.Core.Path.{_≡_}
 use lib.Dec.{leb}
 use lib.ListN.{length, getD}
-use Rattle.laws.specs.Turn.{listBelow}
-use Rattle.excitation.specs.Excitation.{l, h, hl, lh}
+use Rattle.excitation.specs.Excitation.{excitationOf, patternOf}
 use Rattle.excitation.specs.UncertaintySet.{member, code, decode, single}
-use Rattle.excitation.specs.declared.Excitation.{Excitation}
 use Rattle.block.specs.Block.{inputCount, quietTick}
 use Rattle.block.specs.Record.{File, netCount, allowed}
 use Rattle.block.specs.Refusals.{readChecks}
 use Rattle.block.specs.Verdict.{Check, check, verdict}
 use Rattle.block.specs.declared.Verdict.{Verdict}
-use Rattle.block.specs.declared.Verdict.the-variants.{Accepted}
 use Rattle.current.specs.Current.{Sheet, sheetWords, dropOf}
 use Rattle.evaluation.specs.Arguments.{tableCheck, sheetCheck, patternCheck, workCheck}
 use Rattle.evaluation.specs.Evaluation.{simulatedSheet}
 use Rattle.evaluation.specs.Operation.{answerAfter, sheetAfter, WorkAfter}
+use Rattle.evaluation.specs.declared.Currents.{Currents}
 use Rattle.evaluation.specs.declared.CurrentsAnswer.{CurrentsAnswer}
-
--- A byte of a pattern: 0 l, 1 h, 2 hl, 3 lh.
-unfoldable pub excitationOf : ℕ → Excitation
-excitationOf byte = getD (l ∷ h ∷ hl ∷ lh ∷ []) byte l
-
--- Byte i of a pattern is for input net i; bytes past the inputs are not read.
-unfoldable pub patternOf : ℕ → List ℕ → List Excitation
-patternOf inputs bytes = listBelow inputs (λ net. excitationOf (getD bytes net 0))
 
 -- 16. A pattern byte for an input is above 3 or not allowed by byte 18.
 unfoldable pub byteAllowed : File → ℕ → ℕ → Bool
@@ -71,7 +61,9 @@ pub record PatternCodes (inputs : ℕ) (pattern codes : List ℕ) : Type 0 where
   pub long : length codes ≡ 64
   pub at : (net : ℕ) → net < inputs → getD codes net 0 ≡ code (single (excitationOf (getD pattern net 0)))
 
--- An accepted call's answer and sheet.
-pub record PatternEvaluated (file : File) (table pattern : List ℕ) (answer : CurrentsAnswer) (sheet : List ℕ) : Type 0 where
-  pub answered : answer ≡ answerAfter Accepted (dropOf table (patternSheet file pattern)) (quietTick file)
-  pub written : sheet ≡ sheetWords (patternSheet file pattern)
+-- The currents of an accepted file's pattern. 2 ^ 46 is above every drop.
+pub record PatternEvaluated (file : File) (table pattern : List ℕ) (currents : Currents) (words : List ℕ) : Type 0 where
+  pub drop : currents .drop ≡ dropOf table (patternSheet file pattern)
+  pub quiet : currents .quiet ≡ quietTick file
+  pub low : currents .drop < 2 ^ 46
+  pub sheet : words ≡ sheetWords (patternSheet file pattern)

@@ -7,35 +7,20 @@ ghost use Rattle.block.specs.Record.{HasRecord};
 ghost use Rattle.block.specs.Accepted.{AcceptedFile};
 ghost use Rattle.block.specs.Verdict.{verdict};
 ghost use Rattle.evaluation.specs.Evaluation.{HasRows};
-ghost use Rattle.simulator.specs.Simulate.{excitationOf, byteAllowed, bytesFrom, sizeChecks, PatternCodes, PatternEvaluated, Simulated};
+ghost use Rattle.excitation.specs.Excitation.{excitationOf};
+ghost use Rattle.simulator.specs.Simulate.{byteAllowed, bytesFrom, sizeChecks, PatternCodes, PatternEvaluated, Simulated};
 use block::Net;
 use block::ReadAnswer;
 use block::Refusal;
 use block::Verdict;
 use block::record;
+use evaluation::Currents;
 use evaluation::CurrentsAnswer;
 use evaluation::arguments;
-use excitation::Excitation;
-use excitation::H;
-use excitation::HL;
-use excitation::L;
-use excitation::LH;
 use excitation::Set;
 
 // More hops than 256 ticks can have runs: nothing is filled.
 const UNLIMITED: usize = 128;
-
-// The excitation of a pattern's byte. Bytes above 3 are refused before.
-fn excitation_of(byte: u8) -> Excitation
-    ensures { λ r. ⌜ r ≡ excitationOf byte ⌝ }
-{
-    match byte {
-        1 => H,
-        2 => HL,
-        3 => LH,
-        _ => L,
-    }
-}
 
 // Whether a pattern's byte is one that byte 18 of an input allows.
 fn byte_allowed(file: &[u8], net: Net, byte: u8) -> bool
@@ -48,7 +33,7 @@ fn byte_allowed(file: &[u8], net: Net, byte: u8) -> bool
     let set = Set {
         code: record::allowed(file, net) as u8,
     };
-    set.contains(excitation_of(byte))
+    set.contains(excitation::excitation_of(byte))
 }
 
 // Check 16, on the bytes of the inputs in order.
@@ -127,13 +112,13 @@ fn pattern_codes(pattern: &[u8], inputs: usize, codes: &mut [u8])
 {
     let mut net: usize = 0;
     while net < inputs {
-        codes[net] = excitation::single(excitation_of(pattern[net])).code;
+        codes[net] = excitation::single(excitation::excitation_of(pattern[net])).code;
         net += 1;
     }
 }
 
-// The simulation of an accepted file's pattern.
-fn evaluate_pattern(
+// The simulation of an accepted file's pattern: its sheet, drop and quiet tick.
+pub fn evaluate_pattern(
     file: &[u8],
     nets: usize,
     inputs: usize,
@@ -141,17 +126,13 @@ fn evaluate_pattern(
     sheet: &mut [u32],
     pattern: &[u8],
     work: &mut [u8],
-) -> CurrentsAnswer
+) -> Currents
     requires { ⌜ AcceptedFile (now file) nets inputs × (length (now sheet) ≡ 8192) × (length (now pattern) ≡ 64) × HasRows (now work) nets ⌝ }
     ensures { λ r. ⌜ PatternEvaluated (now (file .entry)) (now (table .entry)) (now (pattern .entry)) r (now (sheet .exit)) ⌝ }
 {
     let mut codes = [0u8; 64];
     pattern_codes(pattern, inputs, &mut codes);
-    let currents = evaluation::evaluate(file, nets, inputs, &codes, UNLIMITED, table, sheet, work);
-    CurrentsAnswer::Flowing {
-        drop: currents.drop,
-        quiet: currents.quiet,
-    }
+    evaluation::evaluate(file, nets, inputs, &codes, UNLIMITED, table, sheet, work)
 }
 
 // Simulate: the checks in order, then the sheet, drop and quiet tick of the pattern.
@@ -177,15 +158,21 @@ pub fn simulate(
                 work.len(),
             ) {
                 Verdict::Refused(r) => CurrentsAnswer::Refused(r),
-                Verdict::Accepted => evaluate_pattern(
-                    file,
-                    nets as usize,
-                    inputs as usize,
-                    table,
-                    sheet,
-                    pattern,
-                    work,
-                ),
+                Verdict::Accepted => {
+                    let currents = evaluate_pattern(
+                        file,
+                        nets as usize,
+                        inputs as usize,
+                        table,
+                        sheet,
+                        pattern,
+                        work,
+                    );
+                    CurrentsAnswer::Flowing {
+                        drop: currents.drop,
+                        quiet: currents.quiet,
+                    }
+                }
             }
         }
     }

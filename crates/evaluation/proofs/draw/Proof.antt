@@ -6,7 +6,8 @@ use native.Mathlib.Omega.{arith}
 use lib.ListN.{length, length-replicate}
 use borrow.Author.Needs.{needs}
 use Rattle.excitation.proofs.Lookup.{table-long}
-use Rattle.evaluation.specs.Evaluation.{setsIn, HasRows}
+use Rattle.excitation.specs.UncertaintySet.{setsIn}
+use Rattle.evaluation.specs.Evaluation.{HasRows}
 use Rattle.evaluation.proofs.Drawing.{Evaluating, next-ready, next-drawable, next-evaluated, all-evaluated, inputs-evaluated}
 use Rattle.evaluation.proofs.draw.Statement.{statement}
 use Rattle.evaluation.proofs.draw.Tie as tie
@@ -111,6 +112,7 @@ returns c =
     rw e at (l .inv .4) in
     record {
       sheet = all-evaluated (s .args .file .now) (s .args .nets) (s .args .inputs) (s .pre .accepted) (s .args .hops) _ done;
+      most = done .most;
       times = done .times;
       long = l .inv .2 ∙ c .before .before .before .before .make-inputs .ensures .long;
     }

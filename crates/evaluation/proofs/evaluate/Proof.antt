@@ -4,8 +4,8 @@ use Prim.Native.Nat.{_+_}
 use mathlib.Core.Path.{_∙_}
 use native.Mathlib.Omega.{arith}
 use borrow.Author.Needs.{needs}
-use Rattle.evaluation.specs.Evaluation.{setsIn}
-use Rattle.evaluation.proofs.Quiet.{words-quiet, drop-of-words}
+use Rattle.excitation.specs.UncertaintySet.{setsIn}
+use Rattle.evaluation.proofs.Quiet.{words-quiet, drop-of-words, drop-low}
 use Rattle.evaluation.proofs.evaluate.Statement.{statement}
 use Rattle.evaluation.proofs.evaluate.Tie as tie
 
@@ -37,6 +37,7 @@ returns c =
     record {
       sheet = drawn .sheet;
       drop = c .greatest-drop .ensures ∙ drop-of-words _ _ _ (drawn .sheet);
+      low = drop-low _ _ _ _ _ (drawn .sheet) (c .greatest-drop .ensures) (λ i. omega (arith, c .before .before .before .before .before .before .before .before .before .before .before .before .before .shared-slice-known3 .given i)) (drawn .most) (c .before .before .before .before .before .before .before .before .before .before .before .before .before .before .before .before .pre .accepted .few-nets);
       quiet = c .before .before .quiet-tick .ensures .0;
     }
 

@@ -8,7 +8,7 @@ use borrow.Author.Needs.{needs}
 use Rattle.laws.specs.Rewritten.{Rewritten}
 use Rattle.laws.proofs.Rewritten.{rewritten-none, rewritten-next, rewritten-first}
 use Rattle.excitation.specs.UncertaintySet.{code, single}
-use Rattle.simulator.specs.Simulate.{excitationOf}
+use Rattle.excitation.specs.Excitation.{excitationOf}
 use Rattle.simulator.proofs.pattern_codes.Statement.{statement}
 use Rattle.simulator.proofs.pattern_codes.Tie as tie
 

@@ -1,14 +1,14 @@
--- `envelope::frame_codes` meets its contract.
+-- `block::frame_codes` meets its contract.
 -- Assumes nothing.
 use Prim.Native.Nat.{_-_, _≤_}
-use mathlib.Core.Path.{_≡_, _∙_}
+use mathlib.Core.Path.{_≡_}
 use native.Mathlib.Omega.{arith}
 use borrow.Author.Needs.{needs}
 use Rattle.laws.specs.Rewritten.{Rewritten}
-use Rattle.laws.proofs.Rewritten.{rewritten-none, rewritten-next, rewritten-first}
+use Rattle.laws.proofs.Rewritten.{rewritten-none, rewritten-next}
 use Rattle.block.specs.Record.{allowed}
-use Rattle.envelope.proofs.frame_codes.Statement.{statement}
-use Rattle.envelope.proofs.frame_codes.Tie as tie
+use Rattle.block.proofs.frame_codes.Statement.{statement}
+use Rattle.block.proofs.frame_codes.Tie as tie
 
 abbrev Inv-loop : tie.InvT-loop
 Inv-loop file inputs codes₀ net₀ codes net = (net ≤ inputs) × Rewritten (allowed file) 0 net codes₀ codes
@@ -41,12 +41,7 @@ same-length : tie.Need-same-length Inv-loop μ-loop
 same-length c = c .before .loop .inv .1 .long
 
 returns : tie.Need-returns Inv-loop μ-loop
-returns c =
-    let s = c .before .before .before .before in
-    let l = c .before .loop in
-    let e : l .net ≡ s .args .inputs = omega arith in
-    let all : Rewritten (allowed (s .args .file .now)) 0 (s .args .inputs) (s .args .codes .now) (l .codes) = rw e at (l .inv .1) in
-    record { long = all .long ∙ s .pre .2; at = rewritten-first _ _ _ _ all }
+returns c = let e : c .before .loop .net ≡ c .before .before .before .before .args .inputs = omega arith in rw e at (c .before .loop .inv .1)
 
 pub frame-codes-spec : {M : Type 1} → statement M
 frame-codes-spec =

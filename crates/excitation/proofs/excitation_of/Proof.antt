@@ -1,10 +1,10 @@
--- `simulator::excitation_of` meets its contract.
+-- `excitation::excitation_of` meets its contract.
 -- Assumes nothing.
 use mathlib.Core.Path.{refl, sym}
-use Rattle.simulator.specs.Simulate.{excitationOf}
-use Rattle.simulator.proofs.Patterns.{byte-other}
-use Rattle.simulator.proofs.excitation_of.Statement.{statement}
-use Rattle.simulator.proofs.excitation_of.Tie as tie
+use Rattle.excitation.specs.Excitation.{excitationOf}
+use Rattle.excitation.proofs.Bytes.{byte-other}
+use Rattle.excitation.proofs.excitation_of.Statement.{statement}
+use Rattle.excitation.proofs.excitation_of.Tie as tie
 
 returns : tie.Need-returns
 unfolding excitationOf
