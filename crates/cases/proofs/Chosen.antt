@@ -1,0 +1,38 @@
+-- The choice of the input to split takes an undecided one.
+-- Assumes nothing.
+use Prim.Native.Nat.{ℕ, _≤_}
+use mathlib.Core.Bool.{true}
+use mathlib.Core.List.{List}
+use mathlib.Core.Path.{_≡_}
+use native.Mathlib.Omega.{arith}
+use lib.ListN.{length, getD}
+use borrow.Table.Steps.{cases}
+use Rattle.laws.proofs.Below.{max-at}
+use Rattle.excitation.specs.UncertaintySet.{UncertaintySet, empty}
+use Rattle.cases.specs.Case.{undecided}
+use Rattle.cases.specs.Choice.{rankOf, rank, chosenInput}
+use Rattle.cases.specs.Promise.{Chooses}
+use Rattle.cases.proofs.Cases.{some-undecided}
+use Rattle.laws.proofs.Below.{first-greatest-is}
+
+undecided-ranks : (s : UncertaintySet) (cone : ℕ) → undecided s ≡ true → 1 ≤ rankOf s cone
+unfolding rankOf
+undecided-ranks s cone u = rw u (omega arith)
+
+ranks-undecided : (s : UncertaintySet) (cone : ℕ) → 1 ≤ rankOf s cone → undecided s ≡ true
+unfolding rankOf
+ranks-undecided s cone h = cases (undecided s) (λ u. u) (λ u. absurd (omega (arith, rw u at h)))
+
+pub chosen-undecided : (cones : List ℕ) → Chooses (chosenInput cones)
+unfolding chosenInput rank
+chosen-undecided cones case d =
+    let some = some-undecided case d in
+    let input = chosenInput cones case in
+    let ranked = undecided-ranks (getD case (some .0) empty) (getD cones (some .0) 0) (some .2) in
+    ranks-undecided (getD case input empty) (getD cones input 0)
+    (omega (
+      arith,
+      ranked,
+      max-at (length case) (rank cones case) (some .0) (some .1),
+      first-greatest-is (length case) (rank cones case) (omega (arith, some .1)),
+    ))

@@ -1,0 +1,13 @@
+pub mod Codes
+pub mod Scan
+pub mod Cones
+pub mod Numbers
+pub mod Written
+pub mod Records
+pub mod Bytes
+pub mod Cases
+pub mod Splits
+pub mod Chosen
+pub mod Outcomes
+pub mod Counts
+pub mod Right

@@ -1,0 +1,6 @@
+pub mod Case
+pub mod Search
+pub mod Promise
+pub mod Choice
+pub mod Store
+pub mod Records

@@ -1,0 +1,42 @@
+-- What a search gives, from the promise of the bound that it rests on.
+use Prim.Native.Nat.{ℕ, _+_, _≤_, _<_}
+use mathlib.Core.Bool.{true, false}
+use mathlib.Core.List.{List}
+use mathlib.Core.Path.{_≡_}
+use lib.ListN.{length, getD}
+use Rattle.excitation.specs.UncertaintySet.{empty}
+use Rattle.excitation.specs.declared.Excitation.{Excitation}
+use Rattle.block.specs.Block.{Choice, choiceCount}
+use Rattle.cases.specs.Case.{Case, undecided, decided}
+use Rattle.cases.specs.Search.{StoredCase, Found, setsAt, greatestUpper, outcomeOf}
+use Rattle.cases.specs.declared.Outcome.the-variants.{Spent}
+
+-- No pattern of a case gives more than its bound.
+abbrev pub Bounds : (List Excitation → ℕ) → (Case → ℕ) → Type 0
+Bounds simulated bound = (pattern : List Excitation) (case : Case) → Choice pattern case → simulated pattern ≤ bound case
+
+-- Where some input of a case is undecided, the choice is one of those.
+abbrev pub Chooses : (Case → ℕ) → Type 0
+Chooses choose = (case : Case) → decided case ≡ false → undecided (getD case (choose case) empty) ≡ true
+
+-- A pattern is one of a case in the store.
+pub record Covered (pattern : List Excitation) (cases : List StoredCase) : Type 0 where
+  pub number : ℕ
+  pub inside : number < length cases
+  pub choice : Choice pattern (setsAt cases number)
+
+-- What a search of a frame gives, whatever the bound and the choice of inputs.
+pub record Right (simulated : List Excitation → ℕ) (ratio budget : ℕ) (frame : Case) (found : Found) : Type 0 where
+  -- No pattern of the frame drops more than U.
+  pub above : {pattern : List Excitation} → Choice pattern frame → simulated pattern ≤ greatestUpper (found .state .cases)
+  -- The pattern handed over is one of the frame and drops L.
+  pub chosen : Choice (found .state .best .pattern) frame
+  pub reached : simulated (found .state .best .pattern) ≡ found .state .best .lower
+  -- The outcome is what U and L say.
+  pub outcome : found .outcome ≡ outcomeOf ratio (greatestUpper (found .state .cases)) (found .state .best .lower)
+  -- Spent means that the budget is used up, and that there are more patterns than that.
+  pub few : found .splits ≤ budget
+  pub spent : found .outcome ≡ Spent → found .splits ≡ budget
+  pub enough : found .outcome ≡ Spent → budget + 2 ≤ choiceCount frame
+  -- Every pattern of the frame is one of a case in the store.
+  pub covered : {pattern : List Excitation} → Choice pattern frame → Covered pattern (found .state .cases)

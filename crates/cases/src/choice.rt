@@ -1,0 +1,92 @@
+// The choice of the input to split: the undecided one with most gates in its fan-out cone, the lowest net on a tie.
+ghost use mathlib.Core.Path.{_≡_};
+ghost use Prim.Native.Nat.{ℕ, _≤_, _<_};
+ghost use lib.ListN.{length};
+ghost use Rattle.excitation.specs.UncertaintySet.{decode, setsIn};
+ghost use Rattle.block.specs.Accepted.{AcceptedFile};
+ghost use Rattle.block.specs.Block.{fedFrom, coneSize};
+ghost use Rattle.block.specs.Record.{HasRecord, pinCount, pin};
+ghost use Rattle.laws.specs.Rewritten.{Rewritten};
+ghost use Rattle.cases.specs.Choice.{rankOf, chosenInput};
+use super::sets;
+use block::Net;
+use block::record;
+
+// Whether a net is a pin of a gate, or feeds one of its pins, given which nets below the gate it feeds.
+fn feeds(file: &[u8], source: Net, fed: &[bool], gate: Net) -> bool
+    requires { ⌜ HasRecord (now file) (gate .0) × (pinCount (now file) (gate .0) ≤ 4) × ((p : ℕ) → p < pinCount (now file) (gate .0) → pin (now file) (gate .0) p < length (now fed)) ⌝ }
+    ensures { λ r. ⌜ r ≡ fedFrom (now (file .entry)) (source .0) (now (fed .entry)) (gate .0) ⌝ }
+{
+    let pins = record::pin_count(file, gate);
+    let mut p: usize = 0;
+    while p < pins {
+        let net = record::pin(file, gate, p).0;
+        if net == source.0 {
+            return true;
+        }
+        if fed[net] {
+            return true;
+        }
+        p += 1;
+    }
+    false
+}
+
+// How many gates stand in the fan-out cone of an input.
+fn cone_size(file: &[u8], nets: usize, inputs: usize, source: Net) -> u16
+    requires { ⌜ AcceptedFile (now file) nets inputs × (source .0 < inputs) ⌝ }
+    ensures { λ r. ⌜ r ≡ coneSize (now (file .entry)) (source .0) ⌝ }
+{
+    let mut fed = [false; 1024];
+    let mut size: u16 = 0;
+    let mut gate = inputs;
+    while gate < nets {
+        if feeds(file, source, &fed, Net(gate)) {
+            fed[gate] = true;
+            size += 1;
+        }
+        gate += 1;
+    }
+    size
+}
+
+// Writes how many gates stand in the fan-out cone of each input.
+pub fn write_cones(file: &[u8], nets: usize, inputs: usize, cones: &mut [u16])
+    requires { ⌜ AcceptedFile (now file) nets inputs × (length (now cones) ≡ 64) ⌝ }
+    ensures { λ _. ⌜ Rewritten (coneSize (now (file .entry))) 0 inputs (now (cones .entry)) (now (cones .exit)) ⌝ }
+{
+    let mut net: usize = 0;
+    while net < inputs {
+        cones[net] = cone_size(file, nets, inputs, Net(net));
+        net += 1;
+    }
+}
+
+// The rank of an input: one more than the gates in its cone where it is undecided, else 0.
+fn rank_of(code: u8, cone: u16) -> u32
+    ensures { λ r. ⌜ r ≡ rankOf (decode code) cone ⌝ }
+{
+    if sets::is_undecided(code) {
+        return cone as u32 + 1;
+    }
+    0
+}
+
+// The input of a case to split.
+pub fn choose(codes: &[u8], inputs: usize, cones: &[u16]) -> usize
+    requires { ⌜ (1 ≤ inputs) × (inputs ≤ length (now codes)) × (inputs ≤ length (now cones)) ⌝ }
+    ensures { λ r. ⌜ (r ≡ chosenInput (now (cones .entry)) (setsIn inputs (now (codes .entry)))) × (r < inputs) ⌝ }
+{
+    let mut best: usize = 0;
+    let mut most = rank_of(codes[0], cones[0]);
+    let mut net: usize = 1;
+    while net < inputs {
+        let here = rank_of(codes[net], cones[net]);
+        if most < here {
+            best = net;
+            most = here;
+        }
+        net += 1;
+    }
+    best
+}

@@ -1,0 +1,59 @@
+// The sets of a case, by their codes: a byte for each input.
+ghost use mathlib.Core.Path.{_≡_};
+ghost use Prim.Native.Nat.{_≤_, _<_};
+ghost use lib.ListN.{length};
+ghost use Rattle.laws.specs.Rewritten.{Rewritten};
+ghost use Rattle.excitation.specs.Excitation.{byteOf};
+ghost use Rattle.excitation.specs.UncertaintySet.{decode, setsIn};
+ghost use Rattle.cases.specs.Store.{patternByte};
+ghost use Rattle.cases.specs.Case.{undecided, decided, firstAllowed, probe};
+
+// Whether a set has more than one member.
+pub fn is_undecided(code: u8) -> bool
+    ensures { λ r. ⌜ r ≡ undecided (decode code) ⌝ }
+{
+    1 < code % 2 + code / 2 % 2 + code / 4 % 2 + code / 8 % 2
+}
+
+// Whether every input is decided.
+pub fn is_decided(codes: &[u8], inputs: usize) -> bool
+    requires { ⌜ inputs ≤ length (now codes) ⌝ }
+    ensures { λ r. ⌜ r ≡ decided (setsIn inputs (now (codes .entry))) ⌝ }
+{
+    let mut net: usize = 0;
+    while net < inputs {
+        if is_undecided(codes[net]) {
+            return false;
+        }
+        net += 1;
+    }
+    true
+}
+
+// The byte of a set's first allowed of lh, hl, h, l.
+fn first_allowed(code: u8) -> u8
+    ensures { λ r. ⌜ r ≡ byteOf (firstAllowed (decode code)) ⌝ }
+{
+    if code / 8 % 2 == 1 {
+        return 3;
+    }
+    if code / 4 % 2 == 1 {
+        return 2;
+    }
+    if code / 2 % 2 == 1 {
+        return 1;
+    }
+    0
+}
+
+// Writes a case's probe, a byte for each input.
+pub fn write_probe(codes: &[u8], inputs: usize, pattern: &mut [u8])
+    requires { ⌜ (inputs ≤ length (now codes)) × (inputs ≤ length (now pattern)) ⌝ }
+    ensures { λ _. ⌜ Rewritten (patternByte (probe (setsIn inputs (now (codes .entry))))) 0 inputs (now (pattern .entry)) (now (pattern .exit)) ⌝ }
+{
+    let mut net: usize = 0;
+    while net < inputs {
+        pattern[net] = first_allowed(codes[net]);
+        net += 1;
+    }
+}
