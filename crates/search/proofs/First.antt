@@ -1,0 +1,116 @@
+-- Laws of the first case: the frame's codes, and the state of a search once that case is made.
+-- Assumes nothing.
+use Prim.Native.Nat.{ℕ, _+_, _≤_, _<_, _^_, min}
+use mathlib.Core.List.{List, [], _∷_}
+use mathlib.Core.Logic.{inr}
+use mathlib.Core.Path.{_≡_, refl, ap, _∙_}
+use native.Mathlib.Nat.{min-eq-right}
+use native.Mathlib.Omega.{arith}
+use lib.ListN.{length, replicate, length-replicate, getD-replicate}
+use Rattle.laws.specs.Rewritten.{Rewritten}
+use Rattle.laws.specs.Turn.{inTurn, listBelow}
+use Rattle.excitation.specs.UncertaintySet.{setsIn}
+use Rattle.excitation.specs.declared.Excitation.{Excitation}
+use Rattle.block.specs.Accepted.{AcceptedFile}
+use Rattle.block.specs.Block.{frame}
+use Rattle.block.specs.Record.{File, allowed}
+use Rattle.block.proofs.Frames.{frame-code, frame-sets}
+use Rattle.cases.specs.Case.{Case, probe, takenOf}
+use Rattle.cases.specs.Records.{casesIn, SetCodes, HasCases}
+use Rattle.cases.specs.Search.{StoredCase, Best, State, firstBest, firstState}
+use Rattle.cases.specs.Store.{patternByte}
+use Rattle.cases.proofs.Codes.{probe-low, probe-read}
+use Rattle.cases.proofs.Records.{caseOf, cases-appended, has-appended}
+use Rattle.search.specs.Search.{simulatedDrop, envelopeDrop}
+use Rattle.search.specs.Steps.{ownUpper, Made, bestIn, stateIn, Running, PastKept}
+
+-- The frame's codes are those of sets that are not empty, and their sets are the frame.
+module _ {file : File} {nets inputs : ℕ} (accepted : AcceptedFile file nets inputs) {codes : List ℕ}
+    (coded : Rewritten (allowed file) 0 inputs (replicate 64 0) codes) where
+  pub codes-long : length codes ≡ 64
+  codes-long = coded .long ∙ length-replicate {A = ℕ} 64 0
+
+  pub frame-coded : SetCodes inputs codes
+  frame-coded = record {
+    low = λ net h. rw (frame-code accepted coded net h) (accepted .input net h .allowed-low);
+    high = λ net h. rw (frame-code accepted coded net h) (accepted .input net h .allowed-high);
+    none = λ j h m. coded .rest j (inr (omega arith)) ∙ getD-replicate 64 j 0 0 m;
+  }
+
+-- Of every store the first 0 records are those of cases.
+no-cases : (inputs : ℕ) (store : List ℕ) → HasCases inputs store 0
+no-cases inputs store = record {
+  whole = omega arith;
+  few = omega arith;
+  codes = λ k h. absurd (omega arith);
+  upper-low = λ k h. absurd (omega arith);
+  upper-bytes = λ k h. absurd (omega arith);
+}
+
+best-is : {lower number : ℕ} {pattern other : List Excitation} → lower ≡ number → pattern ≡ other
+    → _≡_ {A = Best} (record { lower = lower; pattern = pattern }) (record { lower = number; pattern = other })
+best-is e f = λ i. record { lower = e i; pattern = f i }
+
+state-is : {cases others : List StoredCase} {best other : Best} → cases ≡ others → best ≡ other
+    → _≡_ {A = State} (record { cases = cases; best = best }) (record { cases = others; best = other })
+state-is e f = λ i. record { cases = e i; best = f i }
+
+-- The first case is made, at the first place, under a cap that is above every upper number and with every drop enough to be the best.
+module _ {file : File} {nets inputs hops : ℕ} (accepted : AcceptedFile file nets inputs) {table codes : List ℕ}
+    (coded : Rewritten (allowed file) 0 inputs (replicate 64 0) codes) {cap goal : ℕ} {store pattern store′ pattern′ : List ℕ}
+    (made : Made file inputs hops table codes cap 0 0 store pattern goal store′ pattern′) (high : 2 ^ 46 ≤ cap) where
+  abbrev own : ℕ
+  own = ownUpper file hops table (setsIn inputs codes)
+
+  abbrev drop : ℕ
+  drop = simulatedDrop file table (probe (setsIn inputs codes))
+
+  capped : min cap own ≡ own
+  capped = min-eq-right (omega (arith, made .upper-low))
+
+  capped-low : min cap own < 2 ^ 46
+  capped-low = rw capped (made .upper-low)
+
+  reached : (goal ≡ drop + 1) × Rewritten (patternByte (probe (setsIn inputs codes))) 0 inputs pattern pattern′
+  reached = made .reached (omega arith)
+
+  first-cases : casesIn inputs store′ 1 ≡ caseOf inputs codes own ∷ []
+  unfolding casesIn listBelow inTurn
+  first-cases =
+      cases-appended inputs (accepted .few-inputs) codes (codes-long accepted coded) (min cap own) 0 store store′ (made .stored) 0 capped-low refl
+      ∙ ap (λ u. caseOf inputs codes u ∷ []) capped
+
+  of-frame : (sets : Case) → sets ≡ frame file
+      → _≡_ {A = State}
+      (record {
+        cases = record { sets = sets; upper = takenOf (simulatedDrop file table) (envelopeDrop file hops table) sets } ∷ [];
+        best = record { lower = simulatedDrop file table (probe sets); pattern = probe sets };
+      })
+      (firstState (simulatedDrop file table) (envelopeDrop file hops table) (frame file))
+  unfolding firstState firstBest
+  of-frame sets e = ap (firstState (simulatedDrop file table) (envelopeDrop file hops table)) e
+
+  pub first-state : stateIn inputs 1 goal store′ pattern′ ≡ firstState (simulatedDrop file table) (envelopeDrop file hops table) (frame file)
+  unfolding stateIn bestIn ownUpper
+  first-state =
+      state-is first-cases (best-is (omega (arith, reached .0)) (probe-read inputs codes (reached .1)))
+      ∙ of-frame (setsIn inputs codes) (frame-sets accepted coded)
+
+  pub first-running : length pattern ≡ 64 → 72 ≤ length store → Running inputs 1 goal store′ pattern′
+  first-running long room = record {
+    cases = has-appended inputs (accepted .few-inputs) codes (codes-long accepted coded) (min cap own) 0 store store′ (made .stored) 0
+        (frame-coded accepted coded) capped-low (no-cases inputs store) refl room (omega arith);
+    some = omega arith;
+    goal-low = omega (arith, reached .0);
+    goal-high = omega (arith, reached .0, made .drop-low);
+    pattern-long = reached .1 .long ∙ long;
+    pattern-low = probe-low inputs codes (reached .1);
+  }
+
+  pub first-kept : PastKept inputs 1 store pattern store′ pattern′
+  first-kept = record {
+    store-long = made .stored .long;
+    store-past = λ j h. made .stored .rest j (inr (omega arith));
+    pattern-long = reached .1 .long;
+    pattern-past = λ j h. reached .1 .rest j (inr (omega arith));
+  }

@@ -1,0 +1,89 @@
+-- What a store and a pattern hold while cases are made: the cases, and the best probe, which the probe of one case more may better.
+-- Assumes nothing.
+use Prim.Native.Nat.{ℕ, _+_, _*_, _-_, _≤_, _<_, _^_}
+use mathlib.Core.List.{List, [], _∷_, _++_}
+use mathlib.Core.Logic.{inr}
+use mathlib.Core.Path.{_≡_, refl, ap, _∙_}
+use native.Mathlib.Omega.{arith}
+use lib.Dec.{ltb}
+use lib.ListN.{length, getD}
+use borrow.Author.Tests.{ltb-true, ltb-false, lt-ltb, le-ltb}
+use borrow.Table.Steps.{cases}
+use Rattle.laws.specs.Rewritten.{Rewritten}
+use Rattle.laws.proofs.Rewritten.{rewritten-first}
+use Rattle.excitation.specs.Excitation.{l, patternOf}
+use Rattle.excitation.specs.declared.Excitation.{Excitation}
+use Rattle.excitation.proofs.Bytes.{byte-low}
+use Rattle.cases.specs.Case.{Case, probe}
+use Rattle.cases.specs.Records.{casesIn, HasCases}
+use Rattle.cases.specs.Store.{patternByte}
+use Rattle.cases.specs.Search.{StoredCase, Best, better, bestOf}
+use Rattle.search.specs.Steps.{bestIn}
+
+-- A store that holds these cases, and a pattern that holds this best probe, with the goal that the next probe has to reach. Past them
+-- both are as they were given.
+
+pub record CasesHeld (inputs : ℕ) (given : List ℕ) (held : List StoredCase) (n : ℕ) (store : List ℕ) : Type 0 where
+  pub is : casesIn inputs store n ≡ held
+  pub has : HasCases inputs store n
+  pub long : length store ≡ length given
+  pub past : (j : ℕ) → 72 * n ≤ j → getD store j 0 ≡ getD given j 0
+
+pub record BestHeld (inputs : ℕ) (given : List ℕ) (held : Best) (goal : ℕ) (pattern : List ℕ) : Type 0 where
+  pub is : bestIn inputs goal pattern ≡ held
+  pub goal-low : 1 ≤ goal
+  pub goal-high : goal ≤ 2 ^ 46
+  pub long : length pattern ≡ length given
+  pub low : (net : ℕ) → net < inputs → getD pattern net 0 ≤ 3
+  pub past : (j : ℕ) → inputs ≤ j → getD pattern j 0 ≡ getD given j 0
+
+-- The best probe after one case more.
+
+module _ (simulated : List Excitation → ℕ) where
+  pub best-more : (best : Best) (new : List Case) (case : Case) → bestOf simulated best (new ++ (case ∷ [])) ≡ better simulated (bestOf simulated best new) case
+  unfolding bestOf
+  best-more best [] case = refl
+  best-more best (x ∷ new) case = best-more (better simulated best x) new case
+
+  best-kept : (inputs goal : ℕ) (pattern : List ℕ) (case : Case) → 1 ≤ goal → simulated (probe case) < goal
+      → bestIn inputs goal pattern ≡ better simulated (bestIn inputs goal pattern) case
+  unfolding better bestIn
+  best-kept inputs goal pattern case low h = rw (le-ltb (goal - 1) (simulated (probe case)) (omega arith)) refl
+
+  best-reached : (inputs goal : ℕ) (pattern after : List ℕ) (case : Case) → 1 ≤ goal → goal ≤ simulated (probe case) → patternOf inputs after ≡ probe case
+      → bestIn inputs (simulated (probe case) + 1) after ≡ better simulated (bestIn inputs goal pattern) case
+  unfolding better bestIn
+  best-reached inputs goal pattern after case low h e =
+      let d : simulated (probe case) + 1 - 1 ≡ simulated (probe case) = omega arith in
+      rw (lt-ltb (goal - 1) (simulated (probe case)) (omega arith)) (λ i. record { lower = d i; pattern = e i })
+
+  pub best-next : {inputs : ℕ} {given : List ℕ} {held : Best} {goal goal′ : ℕ} {pattern pattern′ : List ℕ} (case : Case)
+      → simulated (probe case) < 2 ^ 46
+      → (simulated (probe case) < goal → (goal′ ≡ goal) × (pattern′ ≡ pattern))
+      → (goal ≤ simulated (probe case) → (goal′ ≡ simulated (probe case) + 1) × (patternOf inputs pattern′ ≡ probe case) × Rewritten (patternByte (probe case)) 0 inputs pattern pattern′)
+      → BestHeld inputs given held goal pattern → BestHeld inputs given (better simulated held case) goal′ pattern′
+  unfolding patternByte
+  best-next {inputs} {given} {held} {goal} {goal′} {pattern} {pattern′} case high kept reached now =
+      let drop = simulated (probe case) in
+      cases (ltb drop goal)
+      (λ t. let h = ltb-true drop goal t in
+      let q = kept h in
+      rw (q .0, q .1) (record {
+        is = best-kept inputs goal pattern case (now .goal-low) h ∙ ap (λ best. better simulated best case) (now .is);
+        goal-low = now .goal-low;
+        goal-high = now .goal-high;
+        long = now .long;
+        low = now .low;
+        past = now .past;
+      }))
+      (λ t. let h = ltb-false drop goal t in
+      let q = reached h in
+      let written = q .2 in
+      rw (q .0) (record {
+        is = best-reached inputs goal pattern pattern′ case (now .goal-low) h (q .1) ∙ ap (λ best. better simulated best case) (now .is);
+        goal-low = omega arith;
+        goal-high = omega arith;
+        long = written .long ∙ now .long;
+        low = λ net m. omega (arith, rewritten-first _ inputs pattern pattern′ written net m, byte-low (getD (probe case) net l));
+        past = λ j m. written .rest j (inr (omega arith)) ∙ now .past j m;
+      }))

@@ -1,0 +1,119 @@
+-- The outcomes of Search: the file is refused, another argument is refused, or the call is accepted and the search runs to its end.
+-- Assumes nothing.
+use Prim.Native.Nat.{ℕ, _+_}
+use mathlib.Core.List.{List, _++_}
+use mathlib.Core.Path.{_≡_, refl, ap, _∙_}
+use native.Mathlib.Omega.{arith}
+use lib.ListN.{length}
+use Rattle.excitation.specs.Excitation.{patternOf}
+use Rattle.block.specs.Accepted.{AcceptedFile}
+use Rattle.block.specs.Block.{frame}
+use Rattle.block.specs.Record.{File}
+use Rattle.block.specs.Refusals.{readOf}
+use Rattle.block.specs.Verdict.{Check, verdict}
+use Rattle.block.specs.declared.ReadAnswer.the-variants as read-answer
+use Rattle.block.specs.declared.Refusal.{Refusal}
+use Rattle.block.specs.declared.Verdict.{Verdict}
+use Rattle.block.specs.declared.Verdict.the-variants as verdict-is
+use Rattle.block.proofs.Accepted.{accepted}
+use Rattle.current.specs.Current.{sheetWords}
+use Rattle.evaluation.specs.Operation.{bufferAfter, WorkAfter}
+use Rattle.evaluation.proofs.Operations.{after-refusal, after-counts}
+use Rattle.cases.specs.Records.{casesIn}
+use Rattle.cases.specs.Search.{State, firstState, searchFrom, search}
+use Rattle.cases.specs.Store.{storeWith, patternWith}
+use Rattle.cases.proofs.Bytes.{store-is, pattern-is}
+use Rattle.cases.proofs.Records.{cases-long}
+use Rattle.search.specs.Search.{simulatedDrop, envelopeDrop, chooseIn, searchOf, sheetOver, limitChecks, bufferChecks, searchVerdict, foundAnswer, answerAfter, Searched}
+use Rattle.search.specs.Steps.{bestIn, stateIn, PastKept, Ran, BlockSearched}
+use Rattle.search.specs.declared.Ended.{Ended}
+use Rattle.search.specs.declared.SearchAnswer.{SearchAnswer}
+use Rattle.search.specs.declared.SearchAnswer.the-variants as answer
+use Rattle.search.proofs.Running.{past-kept}
+
+-- A run from the first state on ends where the search ends, and leaves its answer and its buffers.
+module _ {file : File} {nets inputs hops : ℕ} (accepted : AcceptedFile file nets inputs) {table : List ℕ} {ratio budget : ℕ} {start : State}
+    {store pattern store′ pattern′ store″ pattern″ : List ℕ} {ended : Ended}
+    (first : start ≡ firstState (simulatedDrop file table) (envelopeDrop file hops table) (frame file))
+    (kept : PastKept inputs 1 store pattern store′ pattern′) (ran : Ran file inputs hops table ratio budget start store′ pattern′ ended store″ pattern″) where
+  found-is : ran .found ≡ searchOf file hops table ratio budget
+  unfolding searchOf search
+  found-is = ran .is ∙ ap (searchFrom (simulatedDrop file table) (envelopeDrop file hops table) (chooseIn file) ratio budget 0) first
+
+  cases-held : casesIn inputs store″ (ended .cases) ≡ ran .found .state .cases
+  unfolding stateIn
+  cases-held = ap (λ s. s .cases) (ran .state)
+
+  lower-held : ended .lower ≡ ran .found .state .best .lower
+  unfolding stateIn bestIn
+  lower-held =
+      let e : ended .lower ≡ stateIn inputs (ended .cases) (ended .lower + 1) store″ pattern″ .best .lower = omega arith in
+      e ∙ ap (λ s. s .best .lower) (ran .state)
+
+  pattern-held : patternOf inputs pattern″ ≡ ran .found .state .best .pattern
+  unfolding stateIn bestIn
+  pattern-held = ap (λ s. s .best .pattern) (ran .state)
+
+  count-held : ended .cases ≡ length (ran .found .state .cases)
+  count-held = rw (← cases-held, cases-long) refl
+
+  past : PastKept inputs (ended .cases) store pattern store″ pattern″
+  past = past-kept (ran .running .some) kept (ran .past)
+
+  answer-is : answer.Found (ended .outcome) (ended .upper) (ended .lower) (ended .splits) (ended .cases) ≡ foundAnswer (searchOf file hops table ratio budget)
+  unfolding foundAnswer
+  answer-is =
+      (λ i. answer.Found (ran .outcome i) (ran .upper i) (lower-held i) (ran .splits i) (count-held i)) ∙ ap foundAnswer found-is
+
+  pub block-searched : {sheet : List ℕ} → sheet ≡ sheetWords (sheetOver file hops (casesIn inputs store″ (ended .cases)))
+      → BlockSearched file hops table ratio budget pattern store
+      (answer.Found (ended .outcome) (ended .upper) (ended .lower) (ended .splits) (ended .cases)) sheet pattern″ store″
+  block-searched drawn = record {
+    answered = answer-is;
+    sheet-written = drawn ∙ ap (λ cases. sheetWords (sheetOver file hops cases)) (cases-held ∙ ap (λ f. f .state .cases) found-is);
+    pattern-written = pattern-is inputs pattern″ pattern (omega (arith, accepted .few-inputs, ran .running .pattern-long)) (past .pattern-long)
+        (ran .running .pattern-low) (past .pattern-past)
+        ∙ ap (λ p. patternWith p pattern) (pattern-held ∙ ap (λ f. f .state .best .pattern) found-is);
+    store-written = store-is inputs (accepted .few-inputs) store″ (ended .cases) (ran .running .cases) store (past .store-long) (past .store-past)
+        ∙ ap (λ cases. storeWith cases store) (cases-held ∙ ap (λ f. f .state .cases) found-is);
+  }
+
+module _ (file : File) (hops : ℕ) (table : List ℕ) (ratio budget : ℕ) (sheet pattern work store : List ℕ) where
+  by-verdict : (v : Verdict) (r : SearchAnswer) (sheet′ pattern′ work′ store′ : List ℕ)
+      → searchVerdict file hops table ratio budget sheet pattern work store ≡ v
+      → r ≡ answerAfter v (searchOf file hops table ratio budget)
+      → sheet′ ≡ bufferAfter v (sheetWords (sheetOver file hops (searchOf file hops table ratio budget .state .cases))) sheet
+      → pattern′ ≡ bufferAfter v (patternWith (searchOf file hops table ratio budget .state .best .pattern) pattern) pattern
+      → store′ ≡ bufferAfter v (storeWith (searchOf file hops table ratio budget .state .cases) store) store
+      → WorkAfter v work work′
+      → Searched file hops table ratio budget sheet pattern work store r sheet′ pattern′ work′ store′
+  by-verdict v r sheet′ pattern′ work′ store′ e a s p t k =
+      record { answered = rw e a; sheet-written = rw e s; pattern-written = rw e p; store-written = rw e t; kept = rw e k }
+
+  pub file-refused : (r : Refusal) → readOf file ≡ read-answer.Refused r
+      → Searched file hops table ratio budget sheet pattern work store (answer.Refused r) sheet pattern work store
+  unfolding searchVerdict
+  file-refused r e = by-verdict (verdict-is.Refused r) _ _ _ _ _ (after-refusal file _ r e) refl refl refl refl refl
+
+  module _ (nets inputs : ℕ) (counts : readOf file ≡ read-answer.Counts nets inputs) where
+    abbrev checks : List Check
+    checks = limitChecks hops (length table) ratio budget ++ bufferChecks nets budget (length sheet) (length pattern) (length work) (length store)
+
+    verdict-after : searchVerdict file hops table ratio budget sheet pattern work store ≡ verdict checks
+    unfolding searchVerdict
+    verdict-after =
+        after-counts file _ nets inputs counts
+        ∙ ap
+        (λ n. verdict (limitChecks hops (length table) ratio budget ++ bufferChecks n budget (length sheet) (length pattern) (length work) (length store)))
+        (accepted file nets inputs counts .net-count)
+
+    pub argument-refused : (r : Refusal) → verdict checks ≡ verdict-is.Refused r
+        → Searched file hops table ratio budget sheet pattern work store (answer.Refused r) sheet pattern work store
+    argument-refused r e = by-verdict (verdict-is.Refused r) _ _ _ _ _ (verdict-after ∙ e) refl refl refl refl refl
+
+    pub call-accepted : (r : SearchAnswer) (sheet′ pattern′ work′ store′ : List ℕ) → verdict checks ≡ verdict-is.Accepted
+        → BlockSearched file hops table ratio budget pattern store r sheet′ pattern′ store′
+        → Searched file hops table ratio budget sheet pattern work store r sheet′ pattern′ work′ store′
+    call-accepted r sheet′ pattern′ work′ store′ e b =
+        by-verdict verdict-is.Accepted r sheet′ pattern′ work′ store′ (verdict-after ∙ e) (b .answered) (b .sheet-written) (b .pattern-written)
+        (b .store-written) tt

@@ -1,0 +1,158 @@
+-- `search::run::run` meets its contract.
+-- Assumes nothing.
+use Prim.Native.Nat.{_-_}
+use mathlib.Core.Path.{_≡_, refl, _∙_}
+use native.Mathlib.Omega.{arith}
+use lib.ListN.{length}
+use Rattle.search.specs.Steps.{Next}
+use borrow.Author.Needs.{needs}
+use Rattle.cases.proofs.Records.{has-case}
+use Rattle.search.proofs.Making.{ready-kept}
+use Rattle.search.proofs.Running.{Reached, begun, ran-as, room, upper-low, next-case, ratio-low, ends-exact, ends-within, ends-spent, reached-next}
+use Rattle.search.proofs.run.run.Statement.{statement}
+use Rattle.search.proofs.run.run.Tie as tie
+
+abbrev Inv-loop : tie.InvT-loop
+Inv-loop file setting table cones ratio budget goal sheet₀ pattern₀ work₀ store₀ cases₀ best₀ splits₀ sheet pattern work store cases best splits =
+    Reached file (setting .inputs) (setting .hops) table ratio budget goal store₀ pattern₀ cases best splits store pattern × (length sheet ≡ length sheet₀) × (length work ≡ length work₀)
+
+abbrev μ-loop : tie.MeasureT-loop
+μ-loop file setting table cones ratio budget goal sheet₀ pattern₀ work₀ store₀ cases₀ best₀ splits₀ sheet pattern work store cases best splits =
+    budget - splits
+
+loop-holds : tie.Need-loop-holds Inv-loop μ-loop
+loop-holds c = (begun (c .before .before .before .before .before .before .before .pre .1), refl, refl)
+
+first-greatest-requires : tie.Need-first-greatest-requires Inv-loop μ-loop
+first-greatest-requires c κs = let r = c .before .loop .inv .0 .running in (r .cases .whole, r .some, r .cases .few)
+
+upper-requires : tie.Need-upper-requires Inv-loop μ-loop
+upper-requires c κs = has-case (c .before .before .before .loop .inv .0 .running .cases) (c .before .first-greatest .ensures .1)
+
+sub-lower : tie.Need-sub-lower Inv-loop μ-loop
+sub-lower c = c .before .before .before .before .loop .inv .0 .running .goal-low
+
+ended-requires : tie.Need-ended-requires Inv-loop μ-loop
+ended-requires c κs = search needs
+
+same-length : tie.Need-same-length Inv-loop μ-loop
+same-length c = c .before .before .before .before .before .before .loop .inv .1
+
+same-length-2 : tie.Need-same-length-2 Inv-loop μ-loop
+same-length-2 c = c .before .before .before .before .before .before .loop .inv .0 .past .pattern-long
+
+same-length-3 : tie.Need-same-length-3 Inv-loop μ-loop
+same-length-3 c = c .before .before .before .before .before .before .loop .inv .2
+
+same-length-4 : tie.Need-same-length-4 Inv-loop μ-loop
+same-length-4 c = c .before .before .before .before .before .before .loop .inv .0 .past .store-long
+
+-- The case that the scans found.
+next-found : (c : tie.After-upper Inv-loop μ-loop) → Next (c .before .before .before .before .before .before .before .before .before .before .before .before .args .setting .inputs) (c .before .before .before .before .loop .cases) (c .before .before .before .before .loop .store) (c .before .before .first-greatest .result .0) (c .upper .result)
+next-found c =
+    let found = c .before .before .first-greatest .ensures in
+    next-case (c .before .before .before .before .loop .inv .0 .running) _ (found .1) _ (found .0) (c .upper .ensures)
+
+returns : tie.Need-returns Inv-loop μ-loop
+returns c = ran-as (c .ended .ensures) (ends-exact (c .before .before .before .before .before .before .loop .inv .0) (next-found (c .before .before)) (c .before .if1 .taken))
+
+mul-if2 : tie.Need-mul-if2 Inv-loop μ-loop
+mul-if2 c = record { fits = omega (arith, upper-low (c .before .before .before .before .before .loop .inv .0 .running) _ (c .before .before .before .first-greatest .ensures .1) _ (c .before .upper .ensures)) }
+
+mul-if2-2 : tie.Need-mul-if2-2 Inv-loop μ-loop
+mul-if2-2 c =
+    let running = c .before .before .before .before .before .loop .inv .0 .running in
+    record { fits = omega (arith, ratio-low (c .before .before .before .before .before .before .before .before .before .before .before .before .before .args .ratio) (c .before .before .before .before .before .loop .best - 1) (c .before .before .before .before .before .before .before .before .before .before .before .before .before .pre .4) (omega (arith, running .goal-low, running .goal-high))) }
+
+ended-requires-2 : tie.Need-ended-requires-2 Inv-loop μ-loop
+ended-requires-2 c κs = search needs
+
+same-length-5 : tie.Need-same-length-5 Inv-loop μ-loop
+same-length-5 c = c .before .before .before .before .before .before .before .loop .inv .1
+
+same-length-6 : tie.Need-same-length-6 Inv-loop μ-loop
+same-length-6 c = c .before .before .before .before .before .before .before .loop .inv .0 .past .pattern-long
+
+same-length-7 : tie.Need-same-length-7 Inv-loop μ-loop
+same-length-7 c = c .before .before .before .before .before .before .before .loop .inv .2
+
+same-length-8 : tie.Need-same-length-8 Inv-loop μ-loop
+same-length-8 c = c .before .before .before .before .before .before .before .loop .inv .0 .past .store-long
+
+returns-2 : tie.Need-returns-2 Inv-loop μ-loop
+returns-2 c = ran-as (c .ended2 .ensures) (ends-within (c .before .before .before .before .before .before .before .loop .inv .0) (next-found (c .before .before .before)) (c .before .before .if1 .left) (c .before .if2 .taken))
+
+ended-requires-3 : tie.Need-ended-requires-3 Inv-loop μ-loop
+ended-requires-3 c κs = search needs
+
+same-length-9 : tie.Need-same-length-9 Inv-loop μ-loop
+same-length-9 c = c .before .before .before .before .before .before .before .before .loop .inv .1
+
+same-length-10 : tie.Need-same-length-10 Inv-loop μ-loop
+same-length-10 c = c .before .before .before .before .before .before .before .before .loop .inv .0 .past .pattern-long
+
+same-length-11 : tie.Need-same-length-11 Inv-loop μ-loop
+same-length-11 c = c .before .before .before .before .before .before .before .before .loop .inv .2
+
+same-length-12 : tie.Need-same-length-12 Inv-loop μ-loop
+same-length-12 c = c .before .before .before .before .before .before .before .before .loop .inv .0 .past .store-long
+
+returns-3 : tie.Need-returns-3 Inv-loop μ-loop
+returns-3 c = ran-as (c .ended3 .ensures) (ends-spent (c .before .before .before .before .before .before .before .before .loop .inv .0) (next-found (c .before .before .before .before)) (c .before .before .before .if1 .left) (c .before .before .if2 .left) (c .before .if3 .taken))
+
+split-requires : tie.Need-split-requires Inv-loop μ-loop
+split-requires c κs =
+    let pre = c .before .before .before .before .before .before .before .before .before .before .before .before .before .before .before .before .before .before .before .pre in
+    let inv = c .before .before .before .before .before .before .before .before .before .before .before .loop .inv in
+    let space = room (inv .0) (c .before .before .before .before .if3 .left) (pre .5) (pre .6) in
+    (ready-kept (pre .0) (inv .1) (inv .2), inv .0 .running, next-found (c .before .before .before .before .before .before .before), pre .2, pre .3, space .0, space .1)
+
+add-splits : tie.Need-add-splits Inv-loop μ-loop
+add-splits c = record { fits = omega (arith, c .before .before .before .before .before .before .before .before .before .before .before .before .before .before .before .before .before .before .before .before .loop .inv .0 .afforded, c .before .before .before .before .before .before .before .before .before .before .before .before .before .before .before .before .before .before .before .before .before .before .before .before .before .before .before .before .pre .5) }
+
+loop-less : tie.Need-loop-less Inv-loop μ-loop
+loop-less c = omega (arith, c .before .before .before .before .before .before .before .before .before .before .before .before .before .before .before .before .before .before .before .before .loop .inv .0 .afforded, c .before .before .before .before .before .before .before .before .before .before .before .before .before .if3 .left)
+
+loop-again : tie.Need-loop-again Inv-loop μ-loop
+loop-again c =
+    let inv = c .before .before .before .before .before .before .before .before .before .before .before .before .before .before .before .before .before .before .before .before .loop .inv in
+    let kept = c .before .before .before .before .before .before .before .before .split .kept in (
+      reached-next (inv .0) (next-found (c .before .before .before .before .before .before .before .before .before .before .before .before .before .before .before .before)) (c .before .before .before .before .before .before .before .before .before .before .before .before .before .before .before .if1 .left) (c .before .before .before .before .before .before .before .before .before .before .before .before .before .before .if2 .left) (c .before .before .before .before .before .before .before .before .before .before .before .before .before .if3 .left) (c .before .before .before .before .before .before .before .before .split .ensures),
+      kept .1 .1 .1 .1 .1 .1 .1 .1 .0 ∙ inv .1,
+      kept .1 .1 .1 .1 .1 .1 .1 .1 .1 .1 .0 ∙ inv .2,
+    )
+
+pub run-spec : {M : Type 1} → statement M
+run-spec =
+    tie.close
+    (tie.spec
+    Inv-loop
+    μ-loop
+    loop-holds
+    first-greatest-requires
+    upper-requires
+    sub-lower
+    ended-requires
+    same-length
+    same-length-2
+    same-length-3
+    same-length-4
+    returns
+    mul-if2
+    mul-if2-2
+    ended-requires-2
+    same-length-5
+    same-length-6
+    same-length-7
+    same-length-8
+    returns-2
+    ended-requires-3
+    same-length-9
+    same-length-10
+    same-length-11
+    same-length-12
+    returns-3
+    split-requires
+    add-splits
+    loop-less
+    loop-again)

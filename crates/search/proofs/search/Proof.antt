@@ -1,0 +1,91 @@
+-- `search::search` meets its contract.
+-- Assumes nothing.
+use mathlib.Core.Path.{sym, _∙_}
+use borrow.Author.Needs.{needs}
+use Rattle.block.proofs.Accepted.{accepted}
+use Rattle.block.proofs.Verdicts.{both-accepted}
+use Rattle.search.proofs.Accepted.{limits-right, buffers-right}
+use Rattle.search.proofs.Outcomes.{file-refused, argument-refused, call-accepted}
+use Rattle.search.proofs.search.Statement.{statement}
+use Rattle.search.proofs.search.Tie as tie
+
+read-requires : tie.Need-read-requires
+read-requires c κs = search needs
+
+enum-known-r : tie.Need-enum-known-r
+enum-known-r c = search needs
+
+enum-known-nets : tie.Need-enum-known-nets
+enum-known-nets c = search needs
+
+check-arguments-requires : tie.Need-check-arguments-requires
+check-arguments-requires c κs = accepted _ _ _ (sym (c .before .before .before .read .ensures) ∙ c .before .nets .given .1) .few-nets
+
+enum-known-r-2 : tie.Need-enum-known-r-2
+enum-known-r-2 c = search needs
+
+enum-told : tie.Need-enum-told
+enum-told c = search needs
+
+search-block-requires : tie.Need-search-block-requires
+search-block-requires c κs =
+    let told = c .before .before .before .before in
+    let file = accepted _ _ _ (sym (told .before .before .before .before .before .before .read .ensures) ∙ told .before .before .before .before .nets .given .1) in
+    let both = both-accepted _ _ (sym (told .before .before .check-arguments .ensures) ∙ told .enum-told .given .1) in
+    let limits = limits-right _ _ _ _ (both .0) in
+    let buffers = buffers-right _ _ _ _ _ _ (both .1) in (
+      record {
+        accepted = file;
+        some-hops = limits .some-hops;
+        sheet-long = buffers .sheet-long;
+        rows = record { whole = buffers .work-long; numbered = file .few-nets };
+      },
+      buffers .pattern-long,
+      limits .ratio-high,
+      limits .budget-high,
+      buffers .store-long,
+    )
+
+returns : tie.Need-returns
+returns c = file-refused _ _ _ _ _ _ _ _ _ _ (sym (c .before .before .before .read .ensures) ∙ c .before .r .given .1)
+
+returns-2 : tie.Need-returns-2
+returns-2 c =
+    let told = c .before .before .before in
+    argument-refused _ _ _ _ _ _ _ _ _ _ _ (sym (told .before .before .before .before .read .ensures) ∙ told .before .before .nets .given .1) _ (sym (told .check-arguments .ensures) ∙ c .before .r2 .given .1)
+
+same-length : tie.Need-same-length
+same-length c = search needs
+
+same-length-2 : tie.Need-same-length-2
+same-length-2 c = search needs
+
+same-length-3 : tie.Need-same-length-3
+same-length-3 c = search needs
+
+same-length-4 : tie.Need-same-length-4
+same-length-4 c = search needs
+
+returns-3 : tie.Need-returns-3
+returns-3 c =
+    let told = c .before .before .before .before .before .before .before .before .before .before .before .before .before in
+    call-accepted _ _ _ _ _ _ _ _ _ _ _ (sym (told .before .before .before .before .before .before .read .ensures) ∙ told .before .before .before .before .nets .given .1) _ _ _ _ _ (sym (told .before .before .check-arguments .ensures) ∙ told .enum-told .given .1) (c .before .before .before .before .before .before .before .before .search-block .ensures)
+
+pub search-spec : {M : Type 1} → statement M
+search-spec =
+    tie.close
+    (tie.spec
+    read-requires
+    enum-known-r
+    enum-known-nets
+    check-arguments-requires
+    enum-known-r-2
+    enum-told
+    search-block-requires
+    returns
+    returns-2
+    same-length
+    same-length-2
+    same-length-3
+    same-length-4
+    returns-3)

@@ -1,0 +1,79 @@
+-- `search::sheet::raise` meets its contract.
+-- Assumes nothing.
+use Prim.Native.Nat.{_-_, _≤_}
+use mathlib.Core.Path.{_≡_}
+use native.Mathlib.Omega.{arith}
+use borrow.Author.Needs.{needs}
+use Rattle.laws.specs.Rewritten.{Rewritten}
+use Rattle.laws.proofs.Rewritten.{rewritten-none}
+use Rattle.search.proofs.Sheets.{raised, raised-next}
+use Rattle.search.proofs.sheet.raise.Statement.{statement}
+use Rattle.search.proofs.sheet.raise.Tie as tie
+
+abbrev Inv-loop : tie.InvT-loop
+Inv-loop sheet₀ other i₀ sheet i = (i ≤ 8192) × Rewritten (raised sheet₀ other) 0 i sheet₀ sheet
+
+abbrev μ-loop : tie.MeasureT-loop
+μ-loop sheet₀ other i₀ sheet i = 8192 - i
+
+loop-holds : tie.Need-loop-holds Inv-loop μ-loop
+loop-holds c = (omega arith, rewritten-none _ _ _)
+
+mul-greater : tie.Need-mul-greater Inv-loop μ-loop
+mul-greater c = search needs
+
+slice-read-greater : tie.Need-slice-read-greater Inv-loop μ-loop
+slice-read-greater c = omega (arith, c .before .before .loop .inv .1 .long)
+
+mul-greater-2 : tie.Need-mul-greater-2 Inv-loop μ-loop
+mul-greater-2 c = search needs
+
+shared-slice-read-greater : tie.Need-shared-slice-read-greater Inv-loop μ-loop
+shared-slice-read-greater c = search needs
+
+greater-requires : tie.Need-greater-requires Inv-loop μ-loop
+greater-requires c κs = search needs
+
+mul-sheet : tie.Need-mul-sheet Inv-loop μ-loop
+mul-sheet c = search needs
+
+slice-write-sheet : tie.Need-slice-write-sheet Inv-loop μ-loop
+slice-write-sheet c = omega (arith, c .before .before .before .before .loop .inv .1 .long)
+
+add-i : tie.Need-add-i Inv-loop μ-loop
+add-i c = search needs
+
+loop-less : tie.Need-loop-less Inv-loop μ-loop
+loop-less c = search needs
+
+loop-again : tie.Need-loop-again Inv-loop μ-loop
+loop-again c =
+    let loop = c .before .before .before .before .loop in
+    let start = c .before .before .before .before .before .before .before in
+    (omega arith, raised-next (start .args .sheet .now) (start .args .other .now) (loop .sheet) (loop .i) (omega arith) (c .greater .ensures) (loop .inv .1))
+
+same-length : tie.Need-same-length Inv-loop μ-loop
+same-length c = c .before .loop .inv .1 .long
+
+returns : tie.Need-returns Inv-loop μ-loop
+returns c = let e : c .before .loop .i ≡ 8192 = omega arith in rw e at (c .before .loop .inv .1)
+
+pub raise-spec : {M : Type 1} → statement M
+raise-spec =
+    tie.close
+    (tie.spec
+    Inv-loop
+    μ-loop
+    loop-holds
+    mul-greater
+    slice-read-greater
+    mul-greater-2
+    shared-slice-read-greater
+    greater-requires
+    mul-sheet
+    slice-write-sheet
+    add-i
+    loop-less
+    loop-again
+    same-length
+    returns)

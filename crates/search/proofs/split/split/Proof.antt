@@ -1,0 +1,133 @@
+-- `search::split::split` meets its contract.
+-- Assumes nothing.
+use Prim.Native.Nat.{ℕ, _-_, _≤_}
+use mathlib.Core.Path.{_≡_, refl, _∙_}
+use native.Mathlib.Omega.{arith}
+use lib.ListN.{length, length-replicate}
+use borrow.Author.Needs.{needs}
+use Rattle.cases.proofs.Records.{codes-copied}
+use Rattle.search.proofs.Splitting.{Splitting, child-room, splitting-begun, splitting-next, case-split}
+use Rattle.search.proofs.split.split.Statement.{statement}
+use Rattle.search.proofs.split.split.Tie as tie
+
+abbrev Inv-loop : tie.InvT-loop
+Inv-loop file setting table cones cap n goal sheet₀ pattern₀ work₀ store₀ parent input cases₀ next₀ best₀ e₀ sheet pattern work store cases next best e =
+    (e ≤ 4) × (length sheet ≡ length sheet₀) × (length work ≡ length work₀)
+    × Splitting file (setting .inputs) (setting .hops) table parent input next₀ cap n goal store₀ pattern₀ e cases next best store pattern
+
+abbrev μ-loop : tie.MeasureT-loop
+μ-loop file setting table cones cap n goal sheet₀ pattern₀ work₀ store₀ parent input cases₀ next₀ best₀ e₀ sheet pattern work store cases next best e =
+    4 - e
+
+slice-aggregate-read-sets : tie.Need-slice-aggregate-read-sets Inv-loop μ-loop
+slice-aggregate-read-sets c = search needs
+
+read-sets-requires : tie.Need-read-sets-requires Inv-loop μ-loop
+read-sets-requires c κs =
+    let s = c .before .before .before .before .before .before .before .before .before in
+    (record { whole = omega (arith, s .pre .2 .inside, s .pre .5); numbered = omega (arith, s .pre .2 .inside, s .pre .6) }, length-replicate {A = ℕ} 64 0)
+
+slice-aggregate-choose : tie.Need-slice-aggregate-choose Inv-loop μ-loop
+slice-aggregate-choose c = search needs
+
+choose-requires : tie.Need-choose-requires Inv-loop μ-loop
+choose-requires c κs =
+    let s = c .before .before .before .before .before .before .before .before .before .before .before .before in
+    let accepted = s .pre .0 .accepted in
+    let long = c .before .before .read-sets .ensures .long ∙ length-replicate {A = ℕ} 64 0 in
+    (accepted .one-input, omega (arith, accepted .few-inputs, long), omega (arith, accepted .few-inputs, s .pre .4))
+
+loop-holds : tie.Need-loop-holds Inv-loop μ-loop
+loop-holds c = (omega arith, refl, refl, splitting-begun (c .before .before .before .before .before .before .before .before .before .before .before .before .before .pre .1))
+
+slice-aggregate-make-child : tie.Need-slice-aggregate-make-child Inv-loop μ-loop
+slice-aggregate-make-child c = search needs
+
+make-child-requires : tie.Need-make-child-requires Inv-loop μ-loop
+make-child-requires c κs =
+    let s = c .before .before .before .before .before .before .before .before .before .before .before .before .before .before .before .before .before .before .before .before in
+    let ready = s .pre .0 in
+    let turn = c .before .before .before .before .before .before .loop in
+    let copied = c .before .before .before .before .before .before .before .before .before .before .read-sets .ensures in
+    let long = copied .long ∙ length-replicate {A = ℕ} 64 0 in
+    let below = c .before .before .before .before .before .loop-test .taken in
+    let room = child-room (s .pre .2 .inside) below (s .pre .6) (s .pre .5) (turn .inv .3) in (
+      record {
+        accepted = ready .accepted;
+        some-hops = ready .some-hops;
+        sheet-long = turn .inv .1 ∙ ready .sheet-long;
+        rows = record { whole = omega (arith, ready .rows .whole, turn .inv .2); numbered = ready .rows .numbered };
+      },
+      long,
+      codes-copied (s .args .setting .inputs) (ready .accepted .few-inputs) (s .args .store .now) (s .args .k .0) _ _ copied
+          (s .pre .1 .cases .codes (s .args .k .0) (s .pre .2 .inside)),
+      c .before .before .before .before .before .before .before .choose .ensures .1,
+      below,
+      turn .inv .3 .best .long ∙ s .pre .1 .pattern-long,
+      room .0,
+      room .1,
+    )
+
+add-e : tie.Need-add-e Inv-loop μ-loop
+add-e c = omega (arith, c .before .before .before .before .before .before .before .before .before .before .before .before .before .before .loop-test .taken)
+
+loop-less : tie.Need-loop-less Inv-loop μ-loop
+loop-less c = omega (arith, c .before .before .before .before .before .before .before .before .before .before .before .before .before .before .loop-test .taken)
+
+loop-again : tie.Need-loop-again Inv-loop μ-loop
+loop-again c =
+    let s = c .before .before .before .before .before .before .before .before .before .before .before .before .before .before .before .before .before .before .before .before .before .before .before .before .before .before .before .before .before in
+    let accepted = s .pre .0 .accepted in
+    let turn = c .before .before .before .before .before .before .before .before .before .before .before .before .before .before .before .loop in
+    let copied = c .before .before .before .before .before .before .before .before .before .before .before .before .before .before .before .before .before .before .before .read-sets .ensures in
+    let long = copied .long ∙ length-replicate {A = ℕ} 64 0 in
+    let below = c .before .before .before .before .before .before .before .before .before .before .before .before .before .before .loop-test .taken in (
+      omega arith,
+      c .before .before .before .before .before .before .before .before .make-child .kept .1 .1 .1 .1 .1 .1 .1 .1 .0 ∙ turn .inv .1,
+      c .before .before .before .before .before .before .before .before .make-child .kept .1 .1 .1 .1 .1 .1 .1 .1 .1 .1 .0 ∙ turn .inv .2,
+      splitting-next (s .pre .2 .inside) below (s .pre .6) (s .pre .5) (turn .inv .3) (accepted .few-inputs) long
+          (codes-copied (s .args .setting .inputs) (accepted .few-inputs) (s .args .store .now) (s .args .k .0) _ _ copied
+          (s .pre .1 .cases .codes (s .args .k .0) (s .pre .2 .inside)))
+          (c .before .before .before .before .before .before .before .before .before .before .before .before .before .before .before .before .choose .ensures .1) (c .before .before .before .before .before .before .before .before .make-child .ensures),
+    )
+
+same-length : tie.Need-same-length Inv-loop μ-loop
+same-length c = c .before .loop .inv .1
+
+same-length-2 : tie.Need-same-length-2 Inv-loop μ-loop
+same-length-2 c = c .before .loop .inv .3 .best .long
+
+same-length-3 : tie.Need-same-length-3 Inv-loop μ-loop
+same-length-3 c = c .before .loop .inv .2
+
+same-length-4 : tie.Need-same-length-4 Inv-loop μ-loop
+same-length-4 c = c .before .loop .inv .3 .stored .long
+
+returns : tie.Need-returns Inv-loop μ-loop
+returns c =
+    let s = c .before .before .before .before .before .before .before .before .before .before .before .before .before .before .before in
+    let done = c .before .loop in
+    case-split (s .args .cones .now) (s .pre .0 .accepted) (s .pre .1) (s .pre .2) (s .pre .3) (c .before .before .before .before .before .read-sets .ensures) (c .before .before .choose .ensures .0)
+    (omega (arith, done .inv .0, c .loop-test .left)) (done .inv .3)
+
+pub split-spec : {M : Type 1} → statement M
+split-spec =
+    tie.close
+    (tie.spec
+    Inv-loop
+    μ-loop
+    slice-aggregate-read-sets
+    read-sets-requires
+    slice-aggregate-choose
+    choose-requires
+    loop-holds
+    slice-aggregate-make-child
+    make-child-requires
+    add-e
+    loop-less
+    loop-again
+    same-length
+    same-length-2
+    same-length-3
+    same-length-4
+    returns)

@@ -1,0 +1,132 @@
+-- What the functions of the search ask and promise, step by step: a case made, a case split, the whole run, the sheet.
+use Prim.Native.Nat.{ℕ, _+_, _*_, _-_, _≤_, _<_, _^_, min, max}
+use mathlib.Core.Bool.{true, false}
+use mathlib.Core.List.{List}
+use mathlib.Core.Path.{_≡_}
+use lib.ListN.{length, getD, set}
+use Rattle.laws.specs.Rewritten.{Rewritten}
+use Rattle.excitation.specs.Excitation.{excitationOf, patternOf}
+use Rattle.excitation.specs.UncertaintySet.{member, code, decode, single, setsIn}
+use Rattle.block.specs.Accepted.{AcceptedFile}
+use Rattle.block.specs.Block.{coneSize}
+use Rattle.block.specs.Record.{File}
+use Rattle.current.specs.Current.{sheetWords}
+use Rattle.evaluation.specs.Evaluation.{HasRows}
+use Rattle.cases.specs.Case.{Case, probe, takenOf}
+use Rattle.cases.specs.Records.{casesIn, HasCases, recordByte}
+use Rattle.cases.specs.Search.{Best, State, Found, greatestUpper, nextSplit, split, searchFrom}
+use Rattle.cases.specs.Store.{patternByte, storeWith, patternWith}
+use Rattle.cases.specs.declared.Outcome.{Outcome}
+use Rattle.search.specs.Search.{simulatedDrop, envelopeDrop, chooseIn, searchOf, sheetOver, foundAnswer}
+use Rattle.search.specs.declared.Ended.{Ended}
+use Rattle.search.specs.declared.SearchAnswer.{SearchAnswer}
+use Rattle.search.specs.declared.Step.{Step}
+
+-- What an evaluation in a search is given beside the case: an accepted file, a hop limit, a sheet and a work buffer.
+pub record Ready (file : File) (nets inputs hops : ℕ) (sheet work : List ℕ) : Type 0 where
+  pub accepted : AcceptedFile file nets inputs
+  pub some-hops : 1 ≤ hops
+  pub sheet-long : length sheet ≡ 8192
+  pub rows : HasRows work nets
+
+-- The upper number of a case before the cap.
+unfoldable pub ownUpper : File → ℕ → List ℕ → Case → ℕ
+ownUpper file hops table = takenOf (simulatedDrop file table) (envelopeDrop file hops table)
+
+-- The drop of a case's probe, and the probe.
+pub record Probed (file : File) (inputs : ℕ) (table codes given : List ℕ) (drop : ℕ) (after : List ℕ) : Type 0 where
+  pub is : drop ≡ simulatedDrop file table (probe (setsIn inputs codes))
+  pub low : drop < 2 ^ 46
+  pub written : Rewritten (patternByte (probe (setsIn inputs codes))) 0 inputs given after
+
+-- A case made: its record, and the best probe. A probe is the best so far where its drop reaches the goal, which is 0 before the first
+-- case and L + 1 afterwards.
+pub record Made (file : File) (inputs hops : ℕ) (table codes : List ℕ) (cap goal at : ℕ) (store pattern : List ℕ)
+    (goal′ : ℕ) (store′ pattern′ : List ℕ) : Type 0 where
+  pub stored : Rewritten (recordByte codes (min cap (ownUpper file hops table (setsIn inputs codes)))) (72 * at) 72 store store′
+  pub upper-low : ownUpper file hops table (setsIn inputs codes) < 2 ^ 46
+  pub drop-low : simulatedDrop file table (probe (setsIn inputs codes)) < 2 ^ 46
+  pub kept : simulatedDrop file table (probe (setsIn inputs codes)) < goal → (goal′ ≡ goal) × (pattern′ ≡ pattern)
+  pub reached : goal ≤ simulatedDrop file table (probe (setsIn inputs codes))
+      → (goal′ ≡ simulatedDrop file table (probe (setsIn inputs codes)) + 1) × Rewritten (patternByte (probe (setsIn inputs codes))) 0 inputs pattern pattern′
+
+-- The state of a search, as its buffers have it.
+unfoldable pub bestIn : ℕ → ℕ → List ℕ → Best
+bestIn inputs goal pattern = record { lower = goal - 1; pattern = patternOf inputs pattern }
+
+unfoldable pub stateIn : ℕ → ℕ → ℕ → List ℕ → List ℕ → State
+stateIn inputs n goal store pattern = record { cases = casesIn inputs store n; best = bestIn inputs goal pattern }
+
+-- The buffers of a search under way, with n cases.
+pub record Running (inputs n goal : ℕ) (store pattern : List ℕ) : Type 0 where
+  pub cases : HasCases inputs store n
+  pub some : 1 ≤ n
+  pub goal-low : 1 ≤ goal
+  pub goal-high : goal ≤ 2 ^ 46
+  pub pattern-long : length pattern ≡ 64
+  pub pattern-low : (net : ℕ) → net < inputs → getD pattern net 0 ≤ 3
+
+-- The bytes past n cases, and past the pattern's inputs, are as they were.
+pub record PastKept (inputs n : ℕ) (store pattern store′ pattern′ : List ℕ) : Type 0 where
+  pub store-long : length store′ ≡ length store
+  pub store-past : (j : ℕ) → 72 * n ≤ j → getD store′ j 0 ≡ getD store j 0
+  pub pattern-long : length pattern′ ≡ length pattern
+  pub pattern-past : (j : ℕ) → inputs ≤ j → getD pattern′ j 0 ≡ getD pattern j 0
+
+-- The sets of a child: those of its parent, but for the input that is split, which has one excitation.
+abbrev pub childCodes : List ℕ → ℕ → ℕ → List ℕ
+childCodes parent input e = set parent input (code (single (excitationOf e)))
+
+-- A child made, where the parent's set at the input allows the excitation of byte e; else nothing changes. A child is put at the next
+-- place: the parent's for the first, past the cases for the others.
+pub record ChildMade (file : File) (inputs hops : ℕ) (table parent : List ℕ) (input e cap : ℕ) (step : Step) (store pattern : List ℕ)
+    (step′ : Step) (store′ pattern′ : List ℕ) : Type 0 where
+  pub skipped : member (excitationOf e) (decode (getD parent input 0)) ≡ false → (step′ ≡ step) × (store′ ≡ store) × (pattern′ ≡ pattern)
+  pub made : member (excitationOf e) (decode (getD parent input 0)) ≡ true
+      → Made file inputs hops table (childCodes parent input e) cap (step .goal) (step .next) store pattern (step′ .goal) store′ pattern′
+  pub counted : member (excitationOf e) (decode (getD parent input 0)) ≡ true
+      → (step′ .cases ≡ max (step .next + 1) (step .cases)) × (step′ .next ≡ step′ .cases)
+
+-- The cones of the inputs.
+abbrev pub Cones : File → ℕ → List ℕ → Type 0
+Cones file inputs cones = (net : ℕ) → net < inputs → getD cones net 0 ≡ coneSize file net
+
+-- The case to split: the first whose upper number is U, and U.
+pub record Next (inputs n : ℕ) (store : List ℕ) (k upper : ℕ) : Type 0 where
+  pub place : k ≡ nextSplit (casesIn inputs store n)
+  pub inside : k < n
+  pub greatest : upper ≡ greatestUpper (casesIn inputs store n)
+
+-- A case split.
+pub record CaseSplit (file : File) (inputs hops : ℕ) (table : List ℕ) (n goal : ℕ) (store pattern : List ℕ)
+    (n′ goal′ : ℕ) (store′ pattern′ : List ℕ) : Type 0 where
+  pub state : stateIn inputs n′ goal′ store′ pattern′
+      ≡ split (simulatedDrop file table) (envelopeDrop file hops table) (chooseIn file) (stateIn inputs n goal store pattern)
+  pub running : Running inputs n′ goal′ store′ pattern′
+  pub more : n ≤ n′
+  pub few : n′ ≤ n + 3
+  pub past : PastKept inputs n′ store pattern store′ pattern′
+
+-- How a search ended.
+abbrev pub endedAt : Outcome → ℕ → ℕ → ℕ → ℕ → Ended
+endedAt outcome upper lower splits cases = record { outcome = outcome; upper = upper; lower = lower; splits = splits; cases = cases }
+
+-- A run of the search from a state on, to its end.
+pub record Ran (file : File) (inputs hops : ℕ) (table : List ℕ) (ratio budget : ℕ) (start : State) (store pattern : List ℕ)
+    (ended : Ended) (store′ pattern′ : List ℕ) : Type 0 where
+  pub found : Found
+  pub is : found ≡ searchFrom (simulatedDrop file table) (envelopeDrop file hops table) (chooseIn file) ratio budget 0 start
+  pub outcome : ended .outcome ≡ found .outcome
+  pub upper : ended .upper ≡ greatestUpper (found .state .cases)
+  pub splits : ended .splits ≡ found .splits
+  pub state : stateIn inputs (ended .cases) (ended .lower + 1) store′ pattern′ ≡ found .state
+  pub running : Running inputs (ended .cases) (ended .lower + 1) store′ pattern′
+  pub past : PastKept inputs (ended .cases) store pattern store′ pattern′
+
+-- An accepted call's answer and buffers.
+pub record BlockSearched (file : File) (hops : ℕ) (table : List ℕ) (ratio budget : ℕ) (pattern store : List ℕ)
+    (answer : SearchAnswer) (sheet′ pattern′ store′ : List ℕ) : Type 0 where
+  pub answered : answer ≡ foundAnswer (searchOf file hops table ratio budget)
+  pub sheet-written : sheet′ ≡ sheetWords (sheetOver file hops (searchOf file hops table ratio budget .state .cases))
+  pub pattern-written : pattern′ ≡ patternWith (searchOf file hops table ratio budget .state .best .pattern) pattern
+  pub store-written : store′ ≡ storeWith (searchOf file hops table ratio budget .state .cases) store

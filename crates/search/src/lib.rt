@@ -1,0 +1,167 @@
+// The best-first search: it splits the case of the greatest upper number until the ceiling is exact, near enough, or the budget spent.
+ghost use mathlib.Core.Path.{_≡_};
+ghost use Prim.Native.Nat.{_+_, _*_, _≤_};
+ghost use lib.ListN.{length};
+ghost use Rattle.search.specs.Search.{Searched};
+ghost use Rattle.search.specs.Steps.{Ready, BlockSearched};
+use block::ReadAnswer;
+use block::Refusal;
+use block::Verdict;
+use cases::CaseNumber;
+use cases::Outcome;
+use cases::choice;
+
+mod arguments;
+mod make;
+mod run;
+mod sheet;
+mod split;
+
+// The counts of a block and the hop limit, which every evaluation in a search takes.
+struct Setting {
+    nets: usize,
+    inputs: usize,
+    hops: usize,
+}
+
+// Where a split stands: how many cases there are, the place of the next child, and the drop that makes a probe the best.
+struct Step {
+    cases: usize,
+    next: usize,
+    goal: u64,
+}
+
+// How a search ended: U, L, how many cases were split and how many there are.
+struct Ended {
+    outcome: Outcome,
+    upper: u64,
+    lower: u64,
+    splits: u64,
+    cases: usize,
+}
+
+// What Search answers.
+pub enum SearchAnswer {
+    Found {
+        outcome: Outcome,
+        upper: u64,
+        lower: u64,
+        splits: u64,
+        cases: u64,
+    },
+    Refused(Refusal),
+}
+
+// Above every upper number: the cap of the first case, which has no parent.
+const NO_CAP: u64 = 18446744073709551615;
+
+// Searches an accepted file, with arguments that passed.
+fn search_block(
+    file: &[u8],
+    setting: Setting,
+    table: &[u16],
+    ratio: u64,
+    budget: u64,
+    sheet: &mut [u32],
+    pattern: &mut [u8],
+    work: &mut [u8],
+    store: &mut [u8],
+) -> SearchAnswer
+    requires { ⌜ Ready (now file) (setting .nets) (setting .inputs) (setting .hops) (now sheet) (now work) × (length (now pattern) ≡ 64) × (ratio ≤ 10000) × (budget ≤ 10000) × (72 * (1 + 3 * budget) ≤ length (now store)) ⌝ }
+    ensures { λ r. ⌜ BlockSearched (now (file .entry)) (setting .hops) (now (table .entry)) ratio budget (now (pattern .entry)) (now (store .entry)) r (now (sheet .exit)) (now (pattern .exit)) (now (store .exit)) ⌝ }
+{
+    let inputs = setting.inputs;
+    let mut codes = [0u8; 64];
+    block::frame_codes(file, inputs, &mut codes);
+    let first = CaseNumber(0);
+    let goal = make::make_case(
+        file,
+        setting,
+        table,
+        &codes,
+        NO_CAP,
+        0,
+        first,
+        sheet,
+        pattern,
+        work,
+        store,
+    );
+    let mut cones = [0u16; 64];
+    choice::write_cones(file, setting.nets, inputs, &mut cones);
+    let ended = run::run(
+        file,
+        setting,
+        table,
+        &cones,
+        ratio,
+        budget,
+        goal,
+        sheet,
+        pattern,
+        work,
+        store,
+    );
+    let outcome = ended.outcome;
+    let cases = ended.cases;
+    sheet::draw_cases(file, setting, table, store, cases, sheet, work);
+    SearchAnswer::Found {
+        outcome,
+        upper: ended.upper,
+        lower: ended.lower,
+        splits: ended.splits,
+        cases: cases as u64,
+    }
+}
+
+// Search: the checks in order, then the best-first search of the block's frame.
+pub fn search(
+    file: &[u8],
+    hops: u64,
+    table: &[u16],
+    ratio: u64,
+    budget: u64,
+    sheet: &mut [u32],
+    pattern: &mut [u8],
+    work: &mut [u8],
+    store: &mut [u8],
+) -> SearchAnswer
+    ensures { λ r. ⌜ Searched (now (file .entry)) hops (now (table .entry)) ratio budget (now (sheet .entry)) (now (pattern .entry)) (now (work .entry)) (now (store .entry)) r (now (sheet .exit)) (now (pattern .exit)) (now (work .exit)) (now (store .exit)) ⌝ }
+{
+    match block::read(file) {
+        ReadAnswer::Refused(r) => SearchAnswer::Refused(r),
+        ReadAnswer::Counts { nets, inputs } => {
+            match arguments::check_arguments(
+                nets as usize,
+                hops,
+                table.len(),
+                ratio,
+                budget,
+                sheet.len(),
+                pattern.len(),
+                work.len(),
+                store.len(),
+            ) {
+                Verdict::Refused(r) => SearchAnswer::Refused(r),
+                Verdict::Accepted => {
+                    let setting = Setting {
+                        nets: nets as usize,
+                        inputs: inputs as usize,
+                        hops: hops as usize,
+                    };
+                    search_block(
+                        file,
+                        setting,
+                        table,
+                        ratio,
+                        budget,
+                        sheet,
+                        pattern,
+                        work,
+                        store,
+                    )
+                }
+            }
+        }
+    }
+}

@@ -1,0 +1,90 @@
+// The sheet of a search: the greatest, at each place, over the cases in the store.
+ghost use mathlib.Core.Path.{_≡_};
+ghost use Prim.Native.Nat.{_*_, max};
+ghost use lib.ListN.{length, getD, drop};
+ghost use Rattle.laws.specs.Rewritten.{Rewritten};
+ghost use Rattle.current.specs.Current.{sheetWords};
+ghost use Rattle.cases.specs.Case.{takenOf};
+ghost use Rattle.cases.specs.Records.{casesIn, caseIn, HasCases, HasCase, SetCodes};
+ghost use Rattle.evaluation.specs.Evaluation.{simulatedSheet, envelopeSheet};
+ghost use Rattle.search.specs.Search.{sheetOver};
+ghost use Rattle.search.specs.Steps.{Ready};
+use super::Setting;
+use cases::CaseNumber;
+use cases::sets;
+use cases::store;
+
+fn greater(a: u32, b: u32) -> u32
+    ensures { λ r. ⌜ r ≡ max a b ⌝ }
+{
+    if a < b { b } else { a }
+}
+
+// Raises each word of a sheet to that of another.
+fn raise(sheet: &mut [u32], other: &[u32])
+    requires { ⌜ (length (now sheet) ≡ 8192) × (length (now other) ≡ 8192) ⌝ }
+    ensures { λ _. ⌜ Rewritten (λ i. max (getD (now (sheet .entry)) i 0) (getD (now (other .entry)) i 0)) 0 8192 (now (sheet .entry)) (now (sheet .exit)) ⌝ }
+{
+    let mut i: usize = 0;
+    while i < 8192 {
+        sheet[i] = greater(sheet[i], other[i]);
+        i += 1;
+    }
+}
+
+// Draws the sheet of case k: its simulation where it is decided, else its envelope.
+fn draw_case(
+    file: &[u8],
+    setting: Setting,
+    table: &[u16],
+    store: &[u8],
+    k: CaseNumber,
+    sheet: &mut [u32],
+    work: &mut [u8],
+)
+    requires { ⌜ Ready (now file) (setting .nets) (setting .inputs) (setting .hops) (now sheet) (now work) × HasCase (now store) (k .0) × SetCodes (setting .inputs) (drop (72 * k .0) (now store)) ⌝ }
+    ensures { λ _. ⌜ now (sheet .exit) ≡ sheetWords (takenOf (simulatedSheet (now (file .entry))) (envelopeSheet (setting .hops) (now (file .entry))) (caseIn (setting .inputs) (now (store .entry)) (k .0) .sets)) ⌝ }
+{
+    let inputs = setting.inputs;
+    let mut codes = [0u8; 64];
+    store::read_sets(store, k, &mut codes);
+    if sets::is_decided(&codes, inputs) {
+        let mut pattern = [0u8; 64];
+        sets::write_probe(&codes, inputs, &mut pattern);
+        simulator::evaluate_pattern(file, setting.nets, inputs, table, sheet, &pattern, work);
+        return;
+    }
+    evaluation::evaluate(
+        file,
+        setting.nets,
+        inputs,
+        &codes,
+        setting.hops,
+        table,
+        sheet,
+        work,
+    );
+}
+
+// Draws the sheet over the first n cases.
+pub fn draw_cases(
+    file: &[u8],
+    setting: Setting,
+    table: &[u16],
+    store: &[u8],
+    n: usize,
+    sheet: &mut [u32],
+    work: &mut [u8],
+)
+    requires { ⌜ Ready (now file) (setting .nets) (setting .inputs) (setting .hops) (now sheet) (now work) × HasCases (setting .inputs) (now store) n ⌝ }
+    ensures { λ _. ⌜ now (sheet .exit) ≡ sheetWords (sheetOver (now (file .entry)) (setting .hops) (casesIn (setting .inputs) (now (store .entry)) n)) ⌝ }
+{
+    let mut one = [0u32; 8192];
+    current::clear(sheet);
+    let mut k: usize = 0;
+    while k < n {
+        draw_case(file, setting, table, store, CaseNumber(k), &mut one, work);
+        raise(sheet, &one);
+        k += 1;
+    }
+}
