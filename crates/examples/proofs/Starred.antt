@@ -1,0 +1,60 @@
+-- Document 01's starred examples, by evaluation.
+-- Assumes nothing.
+use mathlib.Core.List.{[], _∷_}
+use mathlib.Core.Path.{_≡_, refl}
+use Rattle.laws.specs.Below.{allBelow, anyBelow, maxBelow, firstGreatest, sumBelow, countBelow}
+use Rattle.laws.specs.Turn.{inTurn, listBelow}
+use Rattle.excitation.specs.Excitation.{lh, excitationOf}
+use Rattle.excitation.specs.UncertaintySet.{member, decode, joinSets, each, size}
+use Rattle.excitation.proofs.Examples.{set-examples}
+use Rattle.block.specs.Block.{inputsBelow, frame, fedFrom, coneSize}
+use Rattle.block.specs.Examples.{blockS, blockF}
+use Rattle.block.specs.Gate.{gateValue}
+use Rattle.block.specs.Kind.{kindOf}
+use Rattle.block.specs.Record.{isInput}
+use Rattle.block.proofs.Examples.{block-examples}
+use Rattle.fill.specs.Fill.{holding, ticksInside, fillTicks, setsHolding, filled}
+use Rattle.fill.specs.Runs.{extend, runsFrom, gapsAfter, gaps, shorter, shortest, close, closeFirst, closeShortest, closeWhile, merged, inside}
+use Rattle.fill.proofs.Examples.{fill-examples}
+use Rattle.waveform.specs.Waveform.{earlier, inputWaveform, gateFrom, pinWaveform, gateAt, gateWaveform, netWaveform, waveforms}
+use Rattle.current.specs.Current.{ticksWhere, greatestAt, gateCurrent, drawsAt, part, contactCurrent, dropAt, dropOf, transitionsOf, sheetOf}
+use Rattle.current.specs.Examples.{tableF}
+use Rattle.current.specs.Pulse.{pulse, pulseAt}
+use Rattle.current.proofs.Examples.{current-examples}
+use Rattle.cases.specs.declared.Outcome.the-variants.{Exact, Within, Spent}
+use Rattle.cases.specs.Case.{undecided, decided, firstAllowed, probe, takenOf, membersBelow, childrenBelow}
+use Rattle.cases.specs.Choice.{coneSizes, rankOf, rank, chosenInput}
+use Rattle.cases.specs.Search.{upperAt, setsAt, greatestUpper, nextSplit, placed, outcomeOf, better, bestOf, firstBest, madeUnder, firstState, nextChildren, split, outcomeAt, searchFrom, search}
+use Rattle.examples.specs.Starred.{tableS, SearchExamples, Starred}
+use Rattle.search.specs.Search.{searchOf, foundAnswer}
+use Rattle.search.specs.declared.SearchAnswer.the-variants as answer
+
+-- Block F, and block S with no split and as the program searches it.
+
+block-F : (foundAnswer (searchOf blockF 10 tableF 1000 200) ≡ answer.Found Exact 55 55 0 1)
+    × (searchOf blockF 10 tableF 1000 200 .state .best .pattern ≡ lh ∷ lh ∷ [])
+unfolding allBelow anyBelow maxBelow firstGreatest sumBelow countBelow inTurn listBelow excitationOf member decode joinSets each size isInput kindOf gateValue inputsBelow frame fedFrom coneSize extend runsFrom gapsAfter gaps shorter shortest close closeFirst closeShortest closeWhile merged inside holding ticksInside fillTicks setsHolding filled earlier inputWaveform gateFrom pinWaveform gateAt gateWaveform netWaveform waveforms pulse pulseAt ticksWhere greatestAt gateCurrent drawsAt part contactCurrent dropAt dropOf transitionsOf sheetOf undecided decided firstAllowed probe takenOf membersBelow childrenBelow coneSizes rankOf rank chosenInput upperAt setsAt greatestUpper nextSplit placed outcomeOf better bestOf firstBest madeUnder firstState nextChildren split outcomeAt searchFrom search searchOf foundAnswer
+block-F = (refl, refl)
+
+unsplit-S : (foundAnswer (searchOf blockS 10 tableS 1999 0) ≡ answer.Found Spent 20 10 0 1)
+    × (foundAnswer (searchOf blockS 10 tableS 2000 0) ≡ answer.Found Within 20 10 0 1)
+unfolding allBelow anyBelow maxBelow firstGreatest sumBelow countBelow inTurn listBelow excitationOf member decode joinSets each size isInput kindOf gateValue inputsBelow frame fedFrom coneSize extend runsFrom gapsAfter gaps shorter shortest close closeFirst closeShortest closeWhile merged inside holding ticksInside fillTicks setsHolding filled earlier inputWaveform gateFrom pinWaveform gateAt gateWaveform netWaveform waveforms pulse pulseAt ticksWhere greatestAt gateCurrent drawsAt part contactCurrent dropAt dropOf transitionsOf sheetOf undecided decided firstAllowed probe takenOf membersBelow childrenBelow coneSizes rankOf rank chosenInput upperAt setsAt greatestUpper nextSplit placed outcomeOf better bestOf firstBest madeUnder firstState nextChildren split outcomeAt searchFrom search searchOf foundAnswer
+unsplit-S = (refl, refl)
+
+block-S : (foundAnswer (searchOf blockS 10 tableS 1000 200) ≡ answer.Found Exact 10 10 1 4)
+    × (searchOf blockS 10 tableS 1000 200 .state .best .pattern ≡ lh ∷ [])
+unfolding allBelow anyBelow maxBelow firstGreatest sumBelow countBelow inTurn listBelow excitationOf member decode joinSets each size isInput kindOf gateValue inputsBelow frame fedFrom coneSize extend runsFrom gapsAfter gaps shorter shortest close closeFirst closeShortest closeWhile merged inside holding ticksInside fillTicks setsHolding filled earlier inputWaveform gateFrom pinWaveform gateAt gateWaveform netWaveform waveforms pulse pulseAt ticksWhere greatestAt gateCurrent drawsAt part contactCurrent dropAt dropOf transitionsOf sheetOf undecided decided firstAllowed probe takenOf membersBelow childrenBelow coneSizes rankOf rank chosenInput upperAt setsAt greatestUpper nextSplit placed outcomeOf better bestOf firstBest madeUnder firstState nextChildren split outcomeAt searchFrom search searchOf foundAnswer
+block-S = (refl, refl)
+
+search-examples : SearchExamples
+search-examples = record {
+  exact-F = block-F .0;
+  pattern-F = block-F .1;
+  spent-S = unsplit-S .0;
+  within-S = unsplit-S .1;
+  exact-S = block-S .0;
+  pattern-S = block-S .1;
+}
+
+pub starred : Starred
+starred = record { sets = set-examples; runs = fill-examples; blocks = block-examples; currents = current-examples; search = search-examples }

@@ -1,0 +1,1 @@
+// Document 01's starred examples: definitions that compute, and no code.
