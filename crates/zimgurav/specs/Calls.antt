@@ -6,6 +6,8 @@ use Rattle.block.specs.Record.{File}
 use Rattle.evaluation.specs.Operation.{sheetAfter, WorkAfter, currentsNumbers}
 use Rattle.simulator.specs.Simulate.{simulateVerdict, simulateAnswer, patternSheet}
 use Rattle.envelope.specs.Envelope.{envelopeVerdict, envelopeAnswer, frameSheet}
+use Rattle.search.specs.Search.{Searched, searchNumbers}
+use Rattle.search.specs.declared.SearchAnswer.{SearchAnswer}
 
 pub record EnvelopeCalled (file : File) (hops : ℕ) (table sheet work sheet′ work′ numbers : List ℕ) : Type 0 where
   pub answered : numbers ≡ currentsNumbers (envelopeAnswer file hops table sheet work)
@@ -16,3 +18,10 @@ pub record SimulateCalled (file : File) (table sheet pattern work sheet′ work�
   pub answered : numbers ≡ currentsNumbers (simulateAnswer file table sheet pattern work)
   pub written : sheet′ ≡ sheetAfter (simulateVerdict file table sheet pattern work) (patternSheet file pattern) sheet
   pub kept : WorkAfter (simulateVerdict file table sheet pattern work) work work′
+
+-- The promise of Search holds with an answer whose numbers these are.
+pub record SearchCalled (file : File) (hops : ℕ) (table : List ℕ) (ratio budget : ℕ) (sheet pattern work store : List ℕ)
+    (sheet′ pattern′ work′ store′ numbers : List ℕ) : Type 0 where
+  pub answer : SearchAnswer
+  pub searched : Searched file hops table ratio budget sheet pattern work store answer sheet′ pattern′ work′ store′
+  pub numbered : numbers ≡ searchNumbers answer

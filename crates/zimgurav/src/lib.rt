@@ -3,10 +3,13 @@ ghost use mathlib.Core.Path.{_≡_};
 ghost use Rattle.block.specs.Refusals.{readOf};
 ghost use Rattle.block.specs.Numbers.{refusalNumbers, readNumbers};
 ghost use Rattle.evaluation.specs.Operation.{currentsNumbers};
-ghost use Rattle.zimgurav.specs.Calls.{EnvelopeCalled, SimulateCalled};
+ghost use Rattle.search.specs.Search.{outcomeNumber, searchNumbers};
+ghost use Rattle.zimgurav.specs.Calls.{EnvelopeCalled, SimulateCalled, SearchCalled};
 use block::ReadAnswer;
 use block::Refusal;
+use cases::Outcome;
 use evaluation::CurrentsAnswer;
+use search::SearchAnswer;
 
 // A refusal as six numbers.
 fn refusal_numbers(r: Refusal) -> [u64; 6]
@@ -32,6 +35,36 @@ fn currents_numbers(answer: CurrentsAnswer) -> [u64; 6]
     match answer {
         CurrentsAnswer::Flowing { drop, quiet } => [0, drop, quiet, 0, 0, 0],
         CurrentsAnswer::Refused(r) => refusal_numbers(r),
+    }
+}
+
+// The number of an outcome: 0 exact, 1 within, 2 spent.
+fn outcome_number(outcome: Outcome) -> u64
+    ensures { λ r. ⌜ r ≡ outcomeNumber outcome ⌝ }
+{
+    match outcome {
+        Outcome::Exact => 0,
+        Outcome::Within => 1,
+        Outcome::Spent => 2,
+    }
+}
+
+// Search's answer as six numbers.
+fn search_numbers(answer: SearchAnswer) -> [u64; 6]
+    ensures { λ r. ⌜ r ≡ searchNumbers answer ⌝ }
+{
+    match answer {
+        SearchAnswer::Found {
+            outcome,
+            upper,
+            lower,
+            splits,
+            cases,
+        } => {
+            let number = outcome_number(outcome);
+            [0, number, upper, lower, splits, cases]
+        }
+        SearchAnswer::Refused(r) => refusal_numbers(r),
     }
 }
 
@@ -71,4 +104,34 @@ pub extern "C" fn zimgurav_simulate(
     ensures { λ _. ⌜ SimulateCalled (now (file .entry)) (now (table .entry)) (now (sheet .entry)) (now (pattern .entry)) (now (work .entry)) (now (sheet .exit)) (now (work .exit)) (now (answer .exit)) ⌝ }
 {
     *answer = currents_numbers(simulator::simulate(file, table, sheet, pattern, work));
+}
+
+// Search: the outcome, U, L, splits and cases of the best-first search, with its sheet, pattern and cases in their buffers, or the
+// refusal.
+#[no_mangle]
+pub extern "C" fn zimgurav_search(
+    file: &[u8],
+    hops: u64,
+    table: &[u16],
+    ratio: u64,
+    budget: u64,
+    sheet: &mut [u32],
+    pattern: &mut [u8],
+    work: &mut [u8],
+    store: &mut [u8],
+    answer: &mut [u64; 6],
+)
+    ensures { λ _. ⌜ SearchCalled (now (file .entry)) hops (now (table .entry)) ratio budget (now (sheet .entry)) (now (pattern .entry)) (now (work .entry)) (now (store .entry)) (now (sheet .exit)) (now (pattern .exit)) (now (work .exit)) (now (store .exit)) (now (answer .exit)) ⌝ }
+{
+    *answer = search_numbers(search::search(
+        file,
+        hops,
+        table,
+        ratio,
+        budget,
+        sheet,
+        pattern,
+        work,
+        store,
+    ));
 }

@@ -1,0 +1,153 @@
+// The program: reads a block from standard input, searches it, and prints the answer and the worst pattern found.
+ghost use mathlib.Core.Path.{_≡_};
+ghost use lib.ListN.{length};
+use block::ReadAnswer;
+use cases::Outcome;
+use libc::STDIN_FILENO;
+use libc::STDOUT_FILENO;
+use search::SearchAnswer;
+
+// The most bytes that the program takes: 256 records.
+const MOST: usize = 5120;
+
+// Room for one byte more.
+fn room() -> [u8; 5121]
+    ensures { λ r. ⌜ 5121 ≡ length r ⌝ }
+{
+    [0; 5121]
+}
+
+fn print_blank() {
+    io::write_all(STDOUT_FILENO, b" ");
+}
+
+fn print_end() {
+    io::write_all(STDOUT_FILENO, b"\n");
+}
+
+fn print_refusal(number: u64, place: u64) {
+    io::write_all(STDOUT_FILENO, b"refused ");
+    io::print_decimal(STDOUT_FILENO, number);
+    print_blank();
+    io::print_decimal(STDOUT_FILENO, place);
+    print_end();
+}
+
+fn print_outcome(outcome: Outcome) {
+    match outcome {
+        Outcome::Exact => {
+            io::write_all(STDOUT_FILENO, b"exact");
+        }
+        Outcome::Within => {
+            io::write_all(STDOUT_FILENO, b"within");
+        }
+        Outcome::Spent => {
+            io::write_all(STDOUT_FILENO, b"spent");
+        }
+    }
+}
+
+// A line of outcome, U, L, splits, cases.
+fn print_answer(outcome: Outcome, upper: u64, lower: u64, splits: u64, cases: u64) {
+    print_outcome(outcome);
+    print_blank();
+    io::print_decimal(STDOUT_FILENO, upper);
+    print_blank();
+    io::print_decimal(STDOUT_FILENO, lower);
+    print_blank();
+    io::print_decimal(STDOUT_FILENO, splits);
+    print_blank();
+    io::print_decimal(STDOUT_FILENO, cases);
+    print_end();
+}
+
+// The word of a pattern's byte.
+fn print_excitation(byte: u8) {
+    match byte {
+        0 => {
+            io::write_all(STDOUT_FILENO, b"l");
+        }
+        1 => {
+            io::write_all(STDOUT_FILENO, b"h");
+        }
+        2 => {
+            io::write_all(STDOUT_FILENO, b"hl");
+        }
+        _ => {
+            io::write_all(STDOUT_FILENO, b"lh");
+        }
+    }
+}
+
+// A line of the pattern, one word per input, single blanks between.
+fn print_pattern(pattern: &[u8]) {
+    let mut net: usize = 0;
+    while net < pattern.len() {
+        if 0 < net {
+            print_blank();
+        }
+        print_excitation(pattern[net]);
+        net += 1;
+    }
+    print_end();
+}
+
+// The pattern's line, of as many bytes as the file has inputs.
+fn print_inputs(file: &[u8], pattern: &[u8]) {
+    match block::read(file) {
+        ReadAnswer::Refused(r) => print_refusal(r.number, r.place),
+        ReadAnswer::Counts { nets: _, inputs } => {
+            let n = inputs as usize;
+            if n <= pattern.len() {
+                print_pattern(&pattern[..n]);
+            }
+        }
+    }
+}
+
+// Searches a file with one node of 16 resistances of 1, hops 10, ratio 1,000, budget 200.
+fn estimate(file: &[u8]) {
+    let table = [1u16; 16];
+    let mut sheet = [0u32; 8192];
+    let mut pattern = [0u8; 64];
+    let mut work = [0u8; 40960];
+    let mut store = [0u8; 43272];
+    match search::search(
+        file,
+        10,
+        &table,
+        1000,
+        200,
+        &mut sheet,
+        &mut pattern,
+        &mut work,
+        &mut store,
+    ) {
+        SearchAnswer::Refused(r) => print_refusal(r.number, r.place),
+        SearchAnswer::Found {
+            outcome,
+            upper,
+            lower,
+            splits,
+            cases,
+        } => {
+            print_answer(outcome, upper, lower, splits, cases);
+            print_inputs(file, &pattern);
+        }
+    }
+}
+
+// A byte more than the program takes is refusal 2, before any other check.
+fn run(file: &[u8]) {
+    if MOST < file.len() {
+        print_refusal(2, 0);
+        return;
+    }
+    estimate(file);
+}
+
+fn main() {
+    let mut input = room();
+    let n = io::read_full(STDIN_FILENO, &mut input);
+    run(&input[..n]);
+}
