@@ -25,6 +25,42 @@ pub struct Currents {
     pub quiet: u64,
 }
 
+/// How a search ended.
+#[derive(Clone, Copy, Debug, PartialEq, Eq)]
+pub enum Outcome {
+    /// The bounds are equal: no pattern drops more than the one handed over.
+    Exact,
+    /// The upper bound is at most ratio / 1000 times the lower.
+    Within,
+    /// The budget was spent before that.
+    Spent,
+}
+
+impl fmt::Display for Outcome {
+    fn fmt(&self, f: &mut fmt::Formatter) -> fmt::Result {
+        f.write_str(match self {
+            Outcome::Exact => "exact",
+            Outcome::Within => "within",
+            Outcome::Spent => "spent",
+        })
+    }
+}
+
+/// What an accepted Search returns beside its sheet, pattern and case store.
+#[derive(Clone, Copy, Debug, PartialEq, Eq)]
+pub struct Found {
+    /// How it ended.
+    pub outcome: Outcome,
+    /// The upper bound U: no pattern of the block drops more nanovolts.
+    pub upper: u64,
+    /// The lower bound L: as many nanovolts as the pattern handed over drops.
+    pub lower: u64,
+    /// How many cases were split.
+    pub splits: u64,
+    /// How many cases the store holds.
+    pub cases: u64,
+}
+
 /// Why a call was refused. No lent buffer was changed.
 #[derive(Clone, Copy, Debug, PartialEq, Eq)]
 pub struct Refusal {
@@ -119,6 +155,77 @@ pub fn simulate(
         );
     }
     currents(answer)
+}
+
+/// Searches, best first, for bounds on the greatest drop of any pattern of the block: checks 1 to
+/// 15.
+///
+/// The search starts with the whole frame as its one case and splits the case with the greatest
+/// upper number, until the bounds are as close as the ratio asks or the budget is spent.
+///
+/// - `hop_limit`, `table`, `work`: as for [`envelope`].
+/// - `ratio`: how many thousandths of the lower bound the upper may be, 1,000 to 10,000.
+/// - `budget`: the most cases to split, 0 to 10,000.
+/// - `sheet`: 8,192 words, as for [`envelope`]; no pattern draws more current than it says.
+/// - `pattern`: 64 bytes, as for [`simulate`]; the pattern that drops the lower bound is written
+///   there. The bytes past the inputs are unchanged.
+/// - `store`: at least 72 bytes for each of 1 + 3 × `budget` cases. Each case has 64 bytes of
+///   input sets and 8 of its upper number, low first. The bytes past the cases are unchanged.
+#[allow(clippy::too_many_arguments)]
+pub fn search(
+    file: &[u8],
+    hop_limit: u64,
+    table: &[u16],
+    ratio: u64,
+    budget: u64,
+    sheet: &mut [u32],
+    pattern: &mut [u8],
+    work: &mut [u8],
+    store: &mut [u8],
+) -> Result<Found, Refusal> {
+    let mut answer = [0; 6];
+    // SAFETY: each pointer is good for its length, and slices that are lent to be changed, as
+    // the answer is, overlap no other.
+    unsafe {
+        raw::zimgurav_search(
+            file.as_ptr(),
+            file.len(),
+            hop_limit,
+            table.as_ptr(),
+            table.len(),
+            ratio,
+            budget,
+            sheet.as_mut_ptr(),
+            sheet.len(),
+            pattern.as_mut_ptr(),
+            pattern.len(),
+            work.as_mut_ptr(),
+            work.len(),
+            store.as_mut_ptr(),
+            store.len(),
+            &mut answer,
+        );
+    }
+    match answer {
+        [0, outcome, upper, lower, splits, cases] => Ok(Found {
+            outcome: outcome_of(outcome),
+            upper,
+            lower,
+            splits,
+            cases,
+        }),
+        [number, place, ..] => Err(Refusal { number, place }),
+    }
+}
+
+/// The outcome with this number in an answer.
+fn outcome_of(number: u64) -> Outcome {
+    match number {
+        0 => Outcome::Exact,
+        1 => Outcome::Within,
+        2 => Outcome::Spent,
+        _ => unreachable!("an outcome is 0, 1 or 2"),
+    }
 }
 
 /// The answer of Envelope or Simulate.

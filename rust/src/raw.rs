@@ -56,4 +56,31 @@ extern "C" {
         work_length: usize,
         answer: *mut Answer,
     );
+
+    /// Searches for bounds on the greatest drop. Accepted: 0, outcome (0 exact, 1 within, 2
+    /// spent), upper bound, lower bound, splits, cases.
+    ///
+    /// # Safety
+    ///
+    /// `file` and `table` are not null and are good for reading as many elements as their lengths
+    /// say, `sheet`, `pattern`, `work` and `store` likewise for reading and writing, `answer` is
+    /// good for writing, all are aligned, and none that is written overlaps another.
+    pub fn zimgurav_search(
+        file: *const u8,
+        file_length: usize,
+        hop_limit: u64,
+        table: *const u16,
+        table_length: usize,
+        ratio: u64,
+        budget: u64,
+        sheet: *mut u32,
+        sheet_length: usize,
+        pattern: *mut u8,
+        pattern_length: usize,
+        work: *mut u8,
+        work_length: usize,
+        store: *mut u8,
+        store_length: usize,
+        answer: *mut Answer,
+    );
 }

@@ -1,4 +1,5 @@
-//! The times of Envelope and Simulate: the library beside the second implementation and a yardstick.
+//! The times of Envelope, Simulate and Search: the library beside a yardstick, and Envelope and Simulate
+//! beside the second implementation too.
 //!
 //! Built by `run`, which says where the yardstick is. The argument is the folder of its blocks.
 
@@ -8,27 +9,14 @@ use std::path::Path;
 
 use baseline::fast;
 use check::implementation::{Implementation, LIBRARY, SECOND};
-use check::measure::{compare, full_blocks};
+use check::measure::{compare, compare_searches, full_blocks};
 use check::sample::{Arguments, Random};
-use zimgurav::{Currents, Refusal};
+use zimgurav::{Currents, Found, Outcome, Refusal};
 
-const YARDSTICK: Implementation = Implementation::new("yardstick", envelope, simulate);
+const YARDSTICK: Implementation = Implementation::new("yardstick", envelope, simulate, search);
 
-/// The yardstick's answer, in the library's types.
-macro_rules! answer {
-    ($call:expr) => {
-        match $call {
-            Ok(currents) => Ok(Currents {
-                drop: currents.drop,
-                quiet: currents.quiet.into(),
-            }),
-            Err(refusal) => Err(Refusal {
-                number: refusal.number.into(),
-                place: refusal.place.into(),
-            }),
-        }
-    };
-}
+/// The budgets that searches are timed with.
+const BUDGETS: [u64; 4] = [50, 200, 800, 10_000];
 
 fn envelope(
     file: &[u8],
@@ -37,7 +25,8 @@ fn envelope(
     sheet: &mut [u32],
     work: &mut [u8],
 ) -> Result<Currents, Refusal> {
-    answer!(fast::envelope(file, hop_limit, table, sheet, work))
+    let answer = fast::envelope(file, hop_limit, table, sheet, work);
+    answer.map(currents).map_err(refusal)
 }
 
 fn simulate(
@@ -47,16 +36,67 @@ fn simulate(
     pattern: &[u8],
     work: &mut [u8],
 ) -> Result<Currents, Refusal> {
-    answer!(fast::simulate(file, table, sheet, pattern, work))
+    let answer = fast::simulate(file, table, sheet, pattern, work);
+    answer.map(currents).map_err(refusal)
 }
 
-/// The yardstick's own block and table, with 10 hops and a random pattern.
+#[allow(clippy::too_many_arguments)]
+fn search(
+    file: &[u8],
+    hop_limit: u64,
+    table: &[u16],
+    ratio: u64,
+    budget: u64,
+    sheet: &mut [u32],
+    pattern: &mut [u8],
+    work: &mut [u8],
+    store: &mut [u8],
+) -> Result<Found, Refusal> {
+    let answer = fast::search(
+        file, hop_limit, table, ratio, budget, sheet, pattern, work, store,
+    );
+    answer.map(found).map_err(refusal)
+}
+
+/// The yardstick's answer to Envelope and Simulate, in the library's type.
+fn currents(currents: baseline::Currents) -> Currents {
+    Currents {
+        drop: currents.drop,
+        quiet: currents.quiet.into(),
+    }
+}
+
+/// The yardstick's answer to Search, in the library's type.
+fn found(answer: baseline::Answer) -> Found {
+    Found {
+        outcome: match answer.outcome {
+            baseline::Outcome::Exact => Outcome::Exact,
+            baseline::Outcome::Within => Outcome::Within,
+            baseline::Outcome::Spent => Outcome::Spent,
+        },
+        upper: answer.upper,
+        lower: answer.lower,
+        splits: answer.splits,
+        cases: answer.cases,
+    }
+}
+
+/// The yardstick's refusal, in the library's type.
+fn refusal(refusal: baseline::Refusal) -> Refusal {
+    Refusal {
+        number: refusal.number.into(),
+        place: refusal.place.into(),
+    }
+}
+
+/// The yardstick's own block and table, with 10 hops, ratio 1,000 and a random pattern.
 fn bench_block(folder: &Path) -> Arguments {
     let read = |name| fs::read(folder.join(name)).expect("a file of the yardstick");
     let file = read("bench.blk");
     let (block, _) = file.as_chunks::<20>();
     let mut arguments = Arguments::random(&mut Random::new(1), block);
     arguments.hop_limit = 10;
+    arguments.ratio = 1_000;
     let table = read("bench.tab");
     let (words, _) = table.as_chunks::<2>();
     arguments.table = words.iter().copied().map(u16::from_le_bytes).collect();
@@ -67,13 +107,11 @@ fn main() {
     let folder = env::args_os()
         .nth(1)
         .expect("the folder of the yardstick's blocks");
+    let bench_block = bench_block(Path::new(&folder));
     let implementations = [LIBRARY, SECOND, YARDSTICK];
-    compare(
-        "bench.blk",
-        &bench_block(Path::new(&folder)),
-        &implementations,
-    );
+    compare("bench.blk", &bench_block, &implementations);
     for (name, arguments) in full_blocks() {
         compare(name, &arguments, &implementations);
     }
+    compare_searches("bench.blk", &bench_block, &BUDGETS, &[LIBRARY, YARDSTICK]);
 }

@@ -1,8 +1,8 @@
-//! Implementations of Envelope and Simulate, to be compared with each other.
+//! Implementations of Envelope, Simulate and Search, to be compared with each other.
 
 use crate::sample::Arguments;
 use crate::second;
-use zimgurav::{Currents, Refusal};
+use zimgurav::{Currents, Found, Refusal};
 
 /// What is called Envelope: file, hop limit, table, sheet and work buffer.
 pub type Envelope = fn(&[u8], u64, &[u16], &mut [u32], &mut [u8]) -> Result<Currents, Refusal>;
@@ -10,31 +10,56 @@ pub type Envelope = fn(&[u8], u64, &[u16], &mut [u32], &mut [u8]) -> Result<Curr
 /// What is called Simulate: file, table, sheet, pattern and work buffer.
 pub type Simulate = fn(&[u8], &[u16], &mut [u32], &[u8], &mut [u8]) -> Result<Currents, Refusal>;
 
-/// One implementation of both operations.
+/// What is called Search: file, hop limit, table, ratio, budget, sheet, pattern, work buffer and
+/// case store.
+pub type Search = fn(
+    &[u8],
+    u64,
+    &[u16],
+    u64,
+    u64,
+    &mut [u32],
+    &mut [u8],
+    &mut [u8],
+    &mut [u8],
+) -> Result<Found, Refusal>;
+
+/// One implementation of the three operations.
 #[derive(Clone, Copy)]
 pub struct Implementation {
     pub name: &'static str,
     envelope: Envelope,
     simulate: Simulate,
+    search: Search,
 }
 
-/// One of the two operations of an implementation, with those of the arguments that it takes.
-pub type Operation = fn(&Implementation, &mut Arguments) -> Result<Currents, Refusal>;
+/// One of the operations of an implementation, with those of the arguments that it takes.
+pub type Operation<Answer> = fn(&Implementation, &mut Arguments) -> Result<Answer, Refusal>;
 
 /// The proved library.
-pub const LIBRARY: Implementation =
-    Implementation::new("library", zimgurav::envelope, zimgurav::simulate);
+pub const LIBRARY: Implementation = Implementation::new(
+    "library",
+    zimgurav::envelope,
+    zimgurav::simulate,
+    zimgurav::search,
+);
 
 /// The second implementation.
 pub const SECOND: Implementation =
-    Implementation::new("second", second::envelope, second::simulate);
+    Implementation::new("second", second::envelope, second::simulate, second::search);
 
 impl Implementation {
-    pub const fn new(name: &'static str, envelope: Envelope, simulate: Simulate) -> Self {
+    pub const fn new(
+        name: &'static str,
+        envelope: Envelope,
+        simulate: Simulate,
+        search: Search,
+    ) -> Self {
         Implementation {
             name,
             envelope,
             simulate,
+            search,
         }
     }
 
@@ -57,6 +82,21 @@ impl Implementation {
             &mut arguments.sheet,
             &arguments.pattern,
             &mut arguments.work,
+        )
+    }
+
+    /// Search with all of the arguments.
+    pub fn search(&self, arguments: &mut Arguments) -> Result<Found, Refusal> {
+        (self.search)(
+            &arguments.file,
+            arguments.hop_limit,
+            &arguments.table,
+            arguments.ratio,
+            arguments.budget,
+            &mut arguments.sheet,
+            &mut arguments.pattern,
+            &mut arguments.work,
+            &mut arguments.store,
         )
     }
 }

@@ -3,5 +3,6 @@
 pub mod implementation;
 pub mod kind;
 pub mod measure;
+pub mod pattern;
 pub mod sample;
 pub mod second;

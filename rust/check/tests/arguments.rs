@@ -1,16 +1,19 @@
-//! The refusals of the arguments of Envelope and Simulate, 11, 12, 15 and 16: at their edges, in their
+//! The refusals of the arguments of Envelope, Simulate and Search, 11 to 16: at their edges, in their
 //! order, and after those of the file. A refusal leaves everything that was lent as it was.
+
+use std::fmt::Debug;
 
 use check::implementation::{Implementation, Operation, LIBRARY, SECOND};
 use check::kind::{AND, BUF, NOT};
-use check::sample::{gate, input, Arguments, Record};
-use zimgurav::{raw, Refusal};
+use check::sample::{drawing, gate, input, store_length, Arguments, Record};
+use zimgurav::{raw, Currents, Found, Refusal};
 
-const ENVELOPE: Operation = Implementation::envelope;
-const SIMULATE: Operation = Implementation::simulate;
+const ENVELOPE: Operation<Currents> = Implementation::envelope;
+const SIMULATE: Operation<Currents> = Implementation::simulate;
+const SEARCH: Operation<Found> = Implementation::search;
 
 #[track_caller]
-fn accepted(call: Operation, arguments: &Arguments) {
+fn accepted<Answer: Debug>(call: Operation<Answer>, arguments: &Arguments) {
     for implementation in [LIBRARY, SECOND] {
         let mut lent = arguments.clone();
         let answer = call(&implementation, &mut lent);
@@ -19,7 +22,12 @@ fn accepted(call: Operation, arguments: &Arguments) {
 }
 
 #[track_caller]
-fn refused(call: Operation, arguments: &Arguments, number: u64, place: u64) {
+fn refused<Answer: Debug + PartialEq>(
+    call: Operation<Answer>,
+    arguments: &Arguments,
+    number: u64,
+    place: u64,
+) {
     for implementation in [LIBRARY, SECOND] {
         let name = implementation.name;
         let mut lent = arguments.clone();
@@ -35,6 +43,10 @@ fn refused(call: Operation, arguments: &Arguments, number: u64, place: u64) {
         assert!(
             lent.work == arguments.work,
             "{name} changed the work buffer"
+        );
+        assert!(
+            lent.store == arguments.store,
+            "{name} changed the case store"
         );
     }
 }
@@ -55,6 +67,14 @@ fn arguments() -> Arguments {
 mod edges {
     use super::*;
 
+    /// Numbers that are 0 or `low` where only the low bits are seen.
+    fn wide(low: u64) -> impl Iterator<Item = u64> {
+        let powers = [16, 32, 63].map(|bit| 1 << bit);
+        powers
+            .into_iter()
+            .flat_map(move |power: u64| [power, power + low])
+    }
+
     #[test]
     fn hop_limit() {
         for hop_limit in 1..=16 {
@@ -63,14 +83,15 @@ mod edges {
                 ..arguments()
             };
             accepted(ENVELOPE, &arguments);
+            accepted(SEARCH, &arguments);
         }
-        let wide = [1 << 8, 1 << 16, 1 << 32, 1 << 63].map(|power: u64| [power, power + 10]);
-        for hop_limit in wide.into_iter().flatten().chain([0, 17, 18, u64::MAX]) {
+        for hop_limit in wide(10).chain([0, 17, 18, 256, 266, u64::MAX]) {
             let arguments = Arguments {
                 hop_limit,
                 ..arguments()
             };
             refused(ENVELOPE, &arguments, 11, 0);
+            refused(SEARCH, &arguments, 11, 0);
             // Simulate has no hop limit.
             accepted(SIMULATE, &arguments);
         }
@@ -83,14 +104,53 @@ mod edges {
                 table: vec![3; length],
                 ..arguments()
             };
-            let right = length % 16 == 0 && (16..=256).contains(&length);
-            for call in [ENVELOPE, SIMULATE] {
-                if right {
-                    accepted(call, &arguments);
-                } else {
-                    refused(call, &arguments, 12, 0);
-                }
+            if length % 16 == 0 && (16..=256).contains(&length) {
+                accepted(ENVELOPE, &arguments);
+                accepted(SIMULATE, &arguments);
+                accepted(SEARCH, &arguments);
+            } else {
+                refused(ENVELOPE, &arguments, 12, 0);
+                refused(SIMULATE, &arguments, 12, 0);
+                refused(SEARCH, &arguments, 12, 0);
             }
+        }
+    }
+
+    #[test]
+    fn ratio() {
+        for ratio in [1_000, 1_001, 1_999, 2_000, 9_999, 10_000] {
+            let arguments = Arguments {
+                ratio,
+                ..arguments()
+            };
+            accepted(SEARCH, &arguments);
+        }
+        for ratio in wide(1_000).chain([0, 1, 999, 10_001, 11_000, u64::MAX]) {
+            let arguments = Arguments {
+                ratio,
+                ..arguments()
+            };
+            refused(SEARCH, &arguments, 13, 0);
+            // The others have no ratio.
+            accepted(ENVELOPE, &arguments);
+            accepted(SIMULATE, &arguments);
+        }
+    }
+
+    #[test]
+    fn budget() {
+        for budget in [0, 1, 2, 200, 9_999, 10_000] {
+            accepted(SEARCH, &arguments().with_budget(budget));
+        }
+        for budget in wide(200).chain([10_001, 10_002, 20_000, u64::MAX / 3, u64::MAX]) {
+            let arguments = Arguments {
+                budget,
+                ..arguments().with_budget(10_000)
+            };
+            refused(SEARCH, &arguments, 14, 0);
+            // The others have no budget.
+            accepted(ENVELOPE, &arguments);
+            accepted(SIMULATE, &arguments);
         }
     }
 
@@ -103,6 +163,7 @@ mod edges {
             };
             refused(ENVELOPE, &arguments, 15, 1);
             refused(SIMULATE, &arguments, 15, 1);
+            refused(SEARCH, &arguments, 15, 1);
         }
     }
 
@@ -114,6 +175,7 @@ mod edges {
                 ..arguments()
             };
             refused(SIMULATE, &arguments, 15, 2);
+            refused(SEARCH, &arguments, 15, 2);
             // Envelope has no pattern.
             accepted(ENVELOPE, &arguments);
         }
@@ -125,21 +187,49 @@ mod edges {
             let mut block = vec![gate(BUF, &[0]); nets];
             block[0] = input(15);
             let least = 160 * nets;
-            for call in [ENVELOPE, SIMULATE] {
-                for length in [0, 1, 159, least / 2, least - 160, least - 1] {
-                    let arguments = Arguments {
-                        work: vec![7; length],
-                        ..Arguments::new(&block)
-                    };
-                    refused(call, &arguments, 15, 3);
-                }
-                for length in [least, least + 1, least + 7, 2 * least, 200_000] {
-                    let arguments = Arguments {
-                        work: vec![7; length],
-                        ..Arguments::new(&block)
-                    };
-                    accepted(call, &arguments);
-                }
+            for length in [0, 1, 159, least / 2, least - 160, least - 1] {
+                let arguments = Arguments {
+                    work: vec![7; length],
+                    ..Arguments::new(&block)
+                };
+                refused(ENVELOPE, &arguments, 15, 3);
+                refused(SIMULATE, &arguments, 15, 3);
+                refused(SEARCH, &arguments, 15, 3);
+            }
+            for length in [least, least + 1, least + 7, 2 * least, 200_000] {
+                let arguments = Arguments {
+                    work: vec![7; length],
+                    ..Arguments::new(&block)
+                };
+                accepted(ENVELOPE, &arguments);
+                accepted(SIMULATE, &arguments);
+                accepted(SEARCH, &arguments);
+            }
+        }
+    }
+
+    #[test]
+    fn store() {
+        for budget in [0, 1, 2, 3, 200, 303, 304, 9_999, 10_000] {
+            let least = store_length(budget);
+            for length in [0, 1, 71, least / 2, least - 72, least - 1] {
+                let arguments = Arguments {
+                    budget,
+                    store: vec![7; length],
+                    ..arguments()
+                };
+                refused(SEARCH, &arguments, 15, 4);
+                // The others have no case store.
+                accepted(ENVELOPE, &arguments);
+                accepted(SIMULATE, &arguments);
+            }
+            for length in [least, least + 1, least + 71, least + 72, 2 * least] {
+                let arguments = Arguments {
+                    budget,
+                    store: vec![7; length],
+                    ..arguments()
+                };
+                accepted(SEARCH, &arguments);
             }
         }
     }
@@ -159,8 +249,9 @@ mod edges {
                     } else {
                         refused(SIMULATE, &arguments, 16, inputs as u64 - 1);
                     }
-                    // Envelope reads no pattern.
+                    // Envelope reads no pattern, and Search only writes it.
                     accepted(ENVELOPE, &arguments);
+                    accepted(SEARCH, &arguments);
                 }
             }
         }
@@ -214,14 +305,20 @@ mod order {
 
     const HOP_LIMIT: Fault = (11, 0, |arguments| arguments.hop_limit = 0);
     const TABLE: Fault = (12, 0, |arguments| arguments.table.truncate(15));
+    const RATIO: Fault = (13, 0, |arguments| arguments.ratio = 999);
+    const BUDGET: Fault = (14, 0, |arguments| arguments.budget = 10_001);
     const SHEET: Fault = (15, 1, |arguments| arguments.sheet.truncate(8191));
     const PATTERN: Fault = (15, 2, |arguments| arguments.pattern.truncate(63));
     const WORK: Fault = (15, 3, |arguments| arguments.work.truncate(639));
+    const STORE: Fault = (15, 4, |arguments| {
+        arguments.store.truncate(store_length(200) - 1)
+    });
     const FIRST_BYTE: Fault = (16, 0, |arguments| arguments.pattern[0] = 4);
     const SECOND_BYTE: Fault = (16, 1, |arguments| arguments.pattern[1] = 2);
 
     const OF_ENVELOPE: [Fault; 4] = [HOP_LIMIT, TABLE, SHEET, WORK];
     const OF_SIMULATE: [Fault; 6] = [TABLE, SHEET, PATTERN, WORK, FIRST_BYTE, SECOND_BYTE];
+    const OF_SEARCH: [Fault; 8] = [HOP_LIMIT, TABLE, RATIO, BUDGET, SHEET, PATTERN, WORK, STORE];
 
     /// The block's arguments with these faults.
     fn with(faults: &[Fault]) -> Arguments {
@@ -235,7 +332,7 @@ mod order {
 
     /// Each fault alone, each pair, and each fault with all later ones: the earliest is returned.
     #[track_caller]
-    fn in_order(call: Operation, faults: &[Fault]) {
+    fn in_order<Answer: Debug + PartialEq>(call: Operation<Answer>, faults: &[Fault]) {
         accepted(call, &with(&[]));
         for (index, &fault) in faults.iter().enumerate() {
             let (number, place, _) = fault;
@@ -258,6 +355,11 @@ mod order {
     }
 
     #[test]
+    fn of_search() {
+        in_order(SEARCH, &OF_SEARCH);
+    }
+
+    #[test]
     fn after_the_file_in_envelope() {
         for fault in FILE {
             in_order(ENVELOPE, &[&[fault], &OF_ENVELOPE[..]].concat());
@@ -271,30 +373,52 @@ mod order {
         }
     }
 
-    /// Check 10 is the last of the file's and the arrival is of the last net.
     #[test]
-    fn after_the_arrival() {
+    fn after_the_file_in_search() {
+        for fault in FILE {
+            in_order(SEARCH, &[&[fault], &OF_SEARCH[..]].concat());
+        }
+    }
+
+    /// A block whose last net, 5, arrives at tick 256: check 10 is the last of the file's.
+    fn late_block() -> Vec<Record> {
         let mut block = vec![input(15)];
         for pin in 0..5 {
             let mut buffer = gate(BUF, &[pin]);
             buffer[2] = if pin == 4 { 4 } else { 63 };
             block.push(buffer);
         }
-        for (call, faults) in [(ENVELOPE, &OF_ENVELOPE[..]), (SIMULATE, &OF_SIMULATE[..])] {
-            for (_, _, make) in faults {
-                let mut arguments = Arguments::new(&block);
-                make(&mut arguments);
-                refused(call, &arguments, 10, 5);
-            }
+        block
+    }
+
+    #[track_caller]
+    fn late<Answer: Debug + PartialEq>(call: Operation<Answer>, faults: &[Fault]) {
+        for (_, _, make) in faults {
+            let mut arguments = Arguments::new(&late_block());
+            make(&mut arguments);
+            refused(call, &arguments, 10, 5);
         }
     }
 
-    /// What Simulate does not take is no fault there, and the pattern none of Envelope.
+    #[test]
+    fn after_the_arrival() {
+        late(ENVELOPE, &OF_ENVELOPE);
+        late(SIMULATE, &OF_SIMULATE);
+        late(SEARCH, &OF_SEARCH);
+    }
+
+    /// What an operation does not take is no fault there, and the pattern's bytes are one of Simulate
+    /// alone.
     #[test]
     fn of_the_other_operation() {
-        accepted(SIMULATE, &with(&[HOP_LIMIT]));
-        for fault in [PATTERN, FIRST_BYTE, SECOND_BYTE] {
+        for fault in [HOP_LIMIT, RATIO, BUDGET, STORE] {
+            accepted(SIMULATE, &with(&[fault]));
+        }
+        for fault in [RATIO, BUDGET, PATTERN, STORE, FIRST_BYTE, SECOND_BYTE] {
             accepted(ENVELOPE, &with(&[fault]));
+        }
+        for fault in [FIRST_BYTE, SECOND_BYTE] {
+            accepted(SEARCH, &with(&[fault]));
         }
     }
 }
@@ -344,15 +468,57 @@ mod whole_answer {
         answer
     }
 
+    fn search(arguments: &mut Arguments) -> raw::Answer {
+        let mut answer = [u64::MAX; 6];
+        // SAFETY: each pointer is good for its length, and no two buffers overlap.
+        unsafe {
+            raw::zimgurav_search(
+                arguments.file.as_ptr(),
+                arguments.file.len(),
+                arguments.hop_limit,
+                arguments.table.as_ptr(),
+                arguments.table.len(),
+                arguments.ratio,
+                arguments.budget,
+                arguments.sheet.as_mut_ptr(),
+                arguments.sheet.len(),
+                arguments.pattern.as_mut_ptr(),
+                arguments.pattern.len(),
+                arguments.work.as_mut_ptr(),
+                arguments.work.len(),
+                arguments.store.as_mut_ptr(),
+                arguments.store.len(),
+                &mut answer,
+            );
+        }
+        answer
+    }
+
     /// Both gates draw 257 at tick 1 of their pulse: net 2 from tick 0, net 3 from tick 0 for an
     /// edge of net 1 and from tick 1 for one of net 2.
     #[test]
     fn accepted() {
         assert_eq!(envelope(&mut arguments()), [0, 514, 3, 0, 0, 0]);
+        assert_eq!(search(&mut arguments()), [0, 0, 514, 514, 0, 1]);
         let mut lh_and_h = arguments();
         lh_and_h.pattern[..2].copy_from_slice(&[3, 1]);
         assert_eq!(simulate(&mut lh_and_h), [0, 257, 3, 0, 0, 0]);
         assert_eq!(simulate(&mut arguments()), [0, 0, 3, 0, 0, 0]);
+    }
+
+    /// Block S: each outcome, with its number.
+    #[test]
+    fn accepted_searches() {
+        let rising = |kind| drawing(gate(kind, &[0]), [0, 1, 1, 1], [10, 0]);
+        let block = [input(15), rising(BUF), rising(NOT)];
+        let mut exact = Arguments::new(&block);
+        assert_eq!(search(&mut exact), [0, 0, 10, 10, 1, 4]);
+        let mut within = Arguments::new(&block).with_budget(0);
+        within.ratio = 2_000;
+        assert_eq!(search(&mut within), [0, 1, 20, 10, 0, 1]);
+        let mut spent = Arguments::new(&block).with_budget(0);
+        spent.ratio = 1_999;
+        assert_eq!(search(&mut spent), [0, 2, 20, 10, 0, 1]);
     }
 
     #[test]
@@ -360,14 +526,26 @@ mod whole_answer {
         let mut hops = arguments();
         hops.hop_limit = 17;
         assert_eq!(envelope(&mut hops), [11, 0, 0, 0, 0, 0]);
+        assert_eq!(search(&mut hops), [11, 0, 0, 0, 0, 0]);
         let mut table = arguments();
         table.table.clear();
         assert_eq!(envelope(&mut table), [12, 0, 0, 0, 0, 0]);
         assert_eq!(simulate(&mut table), [12, 0, 0, 0, 0, 0]);
+        assert_eq!(search(&mut table), [12, 0, 0, 0, 0, 0]);
+        let mut ratio = arguments();
+        ratio.ratio = 0;
+        assert_eq!(search(&mut ratio), [13, 0, 0, 0, 0, 0]);
+        let mut budget = arguments();
+        budget.budget = 10_001;
+        assert_eq!(search(&mut budget), [14, 0, 0, 0, 0, 0]);
         let mut work = arguments();
         work.work.clear();
         assert_eq!(envelope(&mut work), [15, 3, 0, 0, 0, 0]);
         assert_eq!(simulate(&mut work), [15, 3, 0, 0, 0, 0]);
+        assert_eq!(search(&mut work), [15, 3, 0, 0, 0, 0]);
+        let mut store = arguments();
+        store.store.clear();
+        assert_eq!(search(&mut store), [15, 4, 0, 0, 0, 0]);
         let mut pattern = arguments();
         pattern.pattern[1] = 2;
         assert_eq!(simulate(&mut pattern), [16, 1, 0, 0, 0, 0]);
@@ -375,5 +553,6 @@ mod whole_answer {
         file.file[20 * 3 + 2] = 0;
         assert_eq!(envelope(&mut file), [9, 3, 0, 0, 0, 0]);
         assert_eq!(simulate(&mut file), [9, 3, 0, 0, 0, 0]);
+        assert_eq!(search(&mut file), [9, 3, 0, 0, 0, 0]);
     }
 }

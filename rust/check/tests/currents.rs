@@ -4,18 +4,20 @@
 
 use check::implementation::{Implementation, Operation, LIBRARY, SECOND};
 use check::kind::{AND, BUF, NAND, NOR, NOT, OR, XNOR, XOR};
-use check::sample::{allowed, gate, input, Arguments, Random, Record, Shape};
+use check::pattern::{H, HL, L, LH};
+use check::sample::{drawing, gate, input, patterns, silent, Arguments, Random, Record, Shape};
 use zimgurav::{Currents, Refusal};
-
-const L: u8 = 0;
-const H: u8 = 1;
-const HL: u8 = 2;
-const LH: u8 = 3;
 
 /// Checks the drop, the quiet tick and every word of the sheet. A row is written from tick 0 and is
 /// 0 after what is written; the contacts that have no row draw nothing.
 #[track_caller]
-fn gives(arguments: &Arguments, call: Operation, drop: u64, quiet: u64, rows: &[(usize, &[u32])]) {
+fn gives(
+    arguments: &Arguments,
+    call: Operation<Currents>,
+    drop: u64,
+    quiet: u64,
+    rows: &[(usize, &[u32])],
+) {
     let mut sheet = vec![0; 8192];
     for &(contact, row) in rows {
         let start = 512 * contact;
@@ -43,22 +45,6 @@ fn envelope_gives(arguments: &Arguments, drop: u64, quiet: u64, rows: &[(usize, 
 #[track_caller]
 fn simulate_gives(arguments: &Arguments, drop: u64, quiet: u64, rows: &[(usize, &[u32])]) {
     gives(arguments, Implementation::simulate, drop, quiet, rows);
-}
-
-/// A gate with this contact, delay, rise, fall, peak for lh and peak for hl.
-fn drawing(mut gate: Record, [contact, delay, rise, fall]: [u8; 4], [lh, hl]: [u16; 2]) -> Record {
-    gate[1] = contact;
-    gate[2] = delay;
-    gate[12] = rise;
-    gate[13] = fall;
-    gate[14..16].copy_from_slice(&lh.to_le_bytes());
-    gate[16..18].copy_from_slice(&hl.to_le_bytes());
-    gate
-}
-
-/// A gate that draws nothing, with this delay.
-fn silent(gate: Record, delay: u8) -> Record {
-    drawing(gate, [0, delay, 1, 1], [0, 0])
 }
 
 /// Accepted arguments with this pattern at the first inputs.
@@ -507,7 +493,8 @@ mod buffers {
         })
     }
 
-    const OPERATIONS: [Operation; 2] = [Implementation::envelope, Implementation::simulate];
+    const OPERATIONS: [Operation<Currents>; 2] =
+        [Implementation::envelope, Implementation::simulate];
 
     /// What is only read stays as it was.
     #[test]
@@ -565,19 +552,6 @@ mod buffers {
 mod soundness {
     use super::*;
 
-    /// Every pattern of the frame that these inputs allow.
-    fn patterns(inputs: &[Record]) -> Vec<Vec<u8>> {
-        let mut patterns = vec![Vec::new()];
-        for input in inputs {
-            let longer = patterns.iter().flat_map(|pattern: &Vec<u8>| {
-                let bytes = allowed(input).into_iter();
-                bytes.map(|byte| [&pattern[..], &[byte]].concat())
-            });
-            patterns = longer.collect();
-        }
-        patterns
-    }
-
     /// Each word of each pattern's sheet, and its drop, is at most the envelope's.
     #[test]
     fn every_pattern_is_below_the_envelope() {
@@ -593,7 +567,7 @@ mod soundness {
             let mut ceiling = Arguments::random(&mut random, &block);
             let envelope = LIBRARY.envelope(&mut ceiling).expect("accepted");
             let mut under = ceiling.clone();
-            for pattern in patterns(&block[..inputs]) {
+            for pattern in patterns(&block) {
                 under.pattern[..inputs].copy_from_slice(&pattern);
                 let currents = LIBRARY.simulate(&mut under).expect("accepted");
                 assert!(currents.drop <= envelope.drop);

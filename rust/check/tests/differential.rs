@@ -1,14 +1,20 @@
 //! The library against the second implementation on random and damaged files, and on random arguments.
 
+use std::fmt::Debug;
+
 use check::implementation::{Implementation, Operation, LIBRARY, SECOND};
-use check::sample::{damage, Arguments, Random, Record, Shape};
+use check::measure::full_blocks;
+use check::sample::{damage, store_length, Arguments, Random, Record, Shape};
 use check::second;
-use zimgurav::{read, Counts, Currents, Refusal};
+use zimgurav::{read, Counts, Outcome, Refusal};
 
 const FILES: usize = 240_000;
 
 /// How many calls of Envelope there are, and of Simulate.
 const CALLS: usize = 4_000;
+
+/// How many calls of Search there are.
+const SEARCHES: usize = 2_000;
 
 /// How many records a file has before it is damaged: mostly few, sometimes any number, sometimes
 /// about the limit of 1,024.
@@ -97,7 +103,7 @@ fn block_of_any_size(random: &mut Random) -> Vec<Record> {
 
 /// Makes a call fail, mostly, in one of the ways that the arguments can be wrong.
 fn spoil(random: &mut Random, arguments: &mut Arguments) {
-    match random.below(8) {
+    match random.below(11) {
         0 => damage(random, &mut arguments.file),
         1 => arguments.hop_limit = random.pick(&[0, 17, 1 << 32, u64::MAX]),
         2 => arguments.table.truncate(random.pick(&[0, 1, 15, 17, 255])),
@@ -106,6 +112,12 @@ fn spoil(random: &mut Random, arguments: &mut Arguments) {
         5 => arguments
             .work
             .truncate(random.below(8 * arguments.file.len() + 1)),
+        6 => arguments.ratio = random.pick(&[0, 999, 10_001, 1 << 32, u64::MAX]),
+        7 => arguments.budget = random.pick(&[10_000, 10_001, 1 << 32, u64::MAX]),
+        8 => {
+            let least = store_length(arguments.budget.min(60));
+            arguments.store.truncate(random.pick(&[0, 71, least - 1]));
+        }
         _ => {
             let net = random.pick(&[0, 1, 5, 63]);
             if let Some(byte) = arguments.pattern.get_mut(net) {
@@ -127,13 +139,17 @@ fn random_arguments(random: &mut Random) -> Arguments {
 
 /// Makes a call in both implementations: the answers and all that was lent are the same, but for
 /// what an accepted call leaves in the work buffer. A refusal changes nothing.
-fn compare(call: Operation, arguments: &Arguments, turn: usize) -> Result<Currents, Refusal> {
+fn compare<Answer: Copy + Debug + PartialEq>(
+    call: Operation<Answer>,
+    arguments: &Arguments,
+    turn: usize,
+) -> Result<Answer, Refusal> {
     let (mut library, mut second) = (arguments.clone(), arguments.clone());
     let answer = call(&LIBRARY, &mut library);
     assert_eq!(answer, call(&SECOND, &mut second), "call {turn}");
     if answer.is_ok() {
         library.work.clone_from(&second.work);
-        assert!(library == second, "the sheets differ, call {turn}");
+        assert!(library == second, "the buffers differ, call {turn}");
     } else {
         assert!(library == *arguments, "a buffer was changed, call {turn}");
     }
@@ -141,7 +157,7 @@ fn compare(call: Operation, arguments: &Arguments, turn: usize) -> Result<Curren
 }
 
 /// Counts the accepted calls and the refusals by their numbers.
-fn count(reached: &mut [usize; 17], answer: Result<Currents, Refusal>) {
+fn count<Answer>(reached: &mut [usize; 17], answer: Result<Answer, Refusal>) {
     let number = answer.map_or_else(|refusal| refusal.number, |_| 0);
     reached[number as usize] += 1;
 }
@@ -189,4 +205,80 @@ fn random_simulations() {
     for number in [0, 12, 15, 16] {
         assert!(reached[number] >= 20, "reached too seldom: {reached:?}");
     }
+}
+
+/// A random block for Search: mostly small, since a search makes many evaluations, and mostly such
+/// that the envelope is above every drop, so that there is something to split.
+fn block_to_search(random: &mut Random) -> Vec<Record> {
+    if random.below(8) == 0 {
+        let records = 1 + random.below(200);
+        return Shape::random(random, records).block(random);
+    }
+    let (few, any) = (1 + random.below(6), 1 + random.below(16));
+    let shape = Shape {
+        inputs: random.pick(&[few, few, few, any]),
+        gates: 4 + random.below(36),
+        reach: random.pick(&[4, 16, 1024]),
+        delay: random.pick(&[1, 3, 6]),
+        slope: random.pick(&[1, 4, 20]),
+    };
+    shape.block(random)
+}
+
+/// Random arguments of Search, of which some are spoilt. Every buffer holds noise.
+fn random_search(random: &mut Random) -> Arguments {
+    let block = block_to_search(random);
+    let mut arguments = Arguments::random(random, &block);
+    arguments.pattern.fill_with(|| random.byte(0, 255));
+    while random.below(8) == 0 {
+        spoil(random, &mut arguments);
+    }
+    arguments
+}
+
+#[test]
+fn random_searches() {
+    let mut random = Random::new(4);
+    let mut reached = [0; 17];
+    let mut outcomes = [0; 3];
+    let mut after_splits = [0; 3];
+    for turn in 0..SEARCHES {
+        let arguments = random_search(&mut random);
+        let answer = compare(Implementation::search, &arguments, turn);
+        count(&mut reached, answer);
+        if let Ok(found) = answer {
+            outcomes[found.outcome as usize] += 1;
+            after_splits[found.outcome as usize] += usize::from(found.splits > 0);
+        }
+    }
+    println!("accepted, then refusals 1 to 16: {reached:?}");
+    println!("exact, within, spent: {outcomes:?}, after a split: {after_splits:?}");
+    for number in 11..=15 {
+        assert!(reached[number] >= 10, "reached too seldom: {reached:?}");
+    }
+    assert!(
+        after_splits.iter().all(|&times| times >= 50),
+        "an outcome came too seldom after a split: {after_splits:?}"
+    );
+}
+
+/// Compares searches of the largest block, 64 inputs and 960 gates, that spend this budget.
+fn search_the_largest_block(budget: u64) {
+    let [(_, arguments), _] = full_blocks();
+    let arguments = arguments.with_budget(budget);
+    let found = compare(Implementation::search, &arguments, 0).expect("accepted");
+    assert_eq!(found.outcome, Outcome::Spent);
+    assert_eq!(found.splits, budget);
+}
+
+#[test]
+fn largest_block() {
+    search_the_largest_block(20);
+}
+
+/// `cargo test --manifest-path rust/Cargo.toml -p check -- --ignored` runs it.
+#[test]
+#[ignore = "takes ten minutes"]
+fn largest_block_and_budget() {
+    search_the_largest_block(10_000);
 }

@@ -6,7 +6,7 @@ use std::path::{Path, PathBuf};
 use check::implementation::{Implementation, Operation, LIBRARY, SECOND};
 use check::sample::Arguments;
 use check::second;
-use zimgurav::{read, Counts, Currents, Refusal};
+use zimgurav::{read, Counts, Currents, Found, Outcome, Refusal};
 
 /// The vector files, and how many calls of each operation each of them holds.
 const FILES: [(&str, usize); 5] = [
@@ -65,9 +65,9 @@ impl<'a> Vector<'a> {
             file: bytes(file),
             hop_limit: decimal(hop_limit),
             table: resistances(table),
-            sheet: vec![0xeeee_eeee; decimal(sheet_length) as usize],
-            pattern: Vec::new(),
-            work: vec![0xee; decimal(work_length) as usize],
+            sheet: unused_words(sheet_length),
+            work: unused_bytes(work_length),
+            ..Arguments::new(&[])
         };
         self.run_currents(&arguments, Implementation::envelope, at);
     }
@@ -79,18 +79,60 @@ impl<'a> Vector<'a> {
         };
         let arguments = Arguments {
             file: bytes(file),
-            hop_limit: 0,
             table: resistances(table),
-            sheet: vec![0xeeee_eeee; decimal(sheet_length) as usize],
+            sheet: unused_words(sheet_length),
             pattern: bytes(pattern),
-            work: vec![0xee; decimal(work_length) as usize],
+            work: unused_bytes(work_length),
+            ..Arguments::new(&[])
         };
         self.run_currents(&arguments, Implementation::simulate, at);
     }
 
+    /// Calls Search in both implementations and compares the answer, the pattern, the sheet and the
+    /// case store with the line's result. A refusal leaves everything as it was.
+    fn run_search(&self, at: &str) {
+        let [file, hop_limit, table, ratio, budget, sheet, pattern, work, store] =
+            self.arguments[..]
+        else {
+            panic!("search takes nine arguments, {at}");
+        };
+        let arguments = Arguments {
+            file: bytes(file),
+            hop_limit: decimal(hop_limit),
+            table: resistances(table),
+            ratio: decimal(ratio),
+            budget: decimal(budget),
+            sheet: unused_words(sheet),
+            pattern: unused_bytes(pattern),
+            work: unused_bytes(work),
+            store: unused_bytes(store),
+        };
+        for implementation in [LIBRARY, SECOND] {
+            let name = implementation.name;
+            let mut lent = arguments.clone();
+            let answer = implementation.search(&mut lent);
+            if let [word, upper, lower, splits, cases, pattern, sheet, store] = self.result[..] {
+                let expected = Found {
+                    outcome: outcome(word),
+                    upper: decimal(upper),
+                    lower: decimal(lower),
+                    splits: decimal(splits),
+                    cases: decimal(cases),
+                };
+                assert_eq!(answer, Ok(expected), "{name}, {at}");
+                assert_eq!(lent.pattern, bytes(pattern), "{name}'s pattern, {at}");
+                assert_eq!(sheet_hash(&lent.sheet), sheet, "{name}'s sheet, {at}");
+                assert_eq!(hash(lent.store), store, "{name}'s store, {at}");
+            } else {
+                assert_eq!(answer, Err(self.refusal(at)), "{name}, {at}");
+                assert!(lent == arguments, "{name} changed a buffer, {at}");
+            }
+        }
+    }
+
     /// Makes a call in both implementations and compares the answer and the sheet with the line's
     /// result. A refusal leaves everything as it was.
-    fn run_currents(&self, arguments: &Arguments, call: Operation, at: &str) {
+    fn run_currents(&self, arguments: &Arguments, call: Operation<Currents>, at: &str) {
         for implementation in [LIBRARY, SECOND] {
             let name = implementation.name;
             let mut lent = arguments.clone();
@@ -125,6 +167,25 @@ fn decimal(word: &str) -> u64 {
     word.parse().expect("a decimal number")
 }
 
+fn outcome(word: &str) -> Outcome {
+    match word {
+        "exact" => Outcome::Exact,
+        "within" => Outcome::Within,
+        "spent" => Outcome::Spent,
+        _ => panic!("no outcome is {word}"),
+    }
+}
+
+/// As many words as the decimal number says, each as it is before a call.
+fn unused_words(length: &str) -> Vec<u32> {
+    vec![0xeeee_eeee; decimal(length) as usize]
+}
+
+/// As many bytes as the decimal number says, each as it is before a call.
+fn unused_bytes(length: &str) -> Vec<u8> {
+    vec![0xee; decimal(length) as usize]
+}
+
 /// The bytes of a hexadecimal word, `-` standing for none.
 fn bytes(word: &str) -> Vec<u8> {
     if word == "-" {
@@ -151,10 +212,15 @@ fn resistances(word: &str) -> Vec<u16> {
     pairs.iter().copied().map(u16::from_le_bytes).collect()
 }
 
-/// The 64-bit FNV-1a hash of the sheet's words as bytes, low byte first.
+/// The hash of the sheet's words as bytes, low byte first.
 fn sheet_hash(sheet: &[u32]) -> String {
+    hash(sheet.iter().flat_map(|word| word.to_le_bytes()))
+}
+
+/// The 64-bit FNV-1a hash of the bytes.
+fn hash(bytes: impl IntoIterator<Item = u8>) -> String {
     let mut hash = 0xcbf2_9ce4_8422_2325_u64;
-    for byte in sheet.iter().flat_map(|word| word.to_le_bytes()) {
+    for byte in bytes {
         hash = (hash ^ u64::from(byte)).wrapping_mul(0x0000_0100_0000_01b3);
     }
     format!("{hash:016x}")
@@ -196,10 +262,9 @@ fn every_simulate_line() {
     run("simulate", |vector, at| vector.run_simulate(at));
 }
 
-/// Search is not there yet: its lines are skipped.
 #[test]
-fn every_search_line_is_skipped() {
-    run("search", |_, _| {});
+fn every_search_line() {
+    run("search", |vector, at| vector.run_search(at));
 }
 
 #[test]

@@ -1,4 +1,4 @@
-//! The arguments of Envelope and Simulate.
+//! The arguments of Envelope, Simulate and Search.
 
 use super::{Random, Record};
 use crate::kind::INPUT;
@@ -6,23 +6,27 @@ use crate::kind::INPUT;
 /// What a word of the sheet holds before a call.
 const UNUSED_WORD: u32 = 0xeeee_eeee;
 
-/// What a byte of the work buffer holds before a call.
+/// What a byte of the work buffer and of the case store holds before a call.
 const UNUSED_BYTE: u8 = 0xee;
 
-/// Everything that Envelope and Simulate are lent.
+/// Everything that Envelope, Simulate and Search take and are lent.
 #[derive(Clone, PartialEq, Eq)]
 pub struct Arguments {
     pub file: Vec<u8>,
     pub hop_limit: u64,
     pub table: Vec<u16>,
+    pub ratio: u64,
+    pub budget: u64,
     pub sheet: Vec<u32>,
     pub pattern: Vec<u8>,
     pub work: Vec<u8>,
+    pub store: Vec<u8>,
 }
 
 impl Arguments {
-    /// Accepted arguments for a valid block: 10 hops, one node of resistances of 1, at each input
-    /// the first allowed of l, h, hl, lh, and buffers as short as they may be.
+    /// Accepted arguments for a valid block: 10 hops, one node of resistances of 1, ratio 1,000,
+    /// budget 200, at each input the first allowed of l, h, hl, lh, and buffers as short as they
+    /// may be.
     pub fn new(block: &[Record]) -> Self {
         let mut pattern = vec![0; 64];
         for (byte, input) in pattern.iter_mut().zip(inputs(block)) {
@@ -32,14 +36,25 @@ impl Arguments {
             file: block.concat(),
             hop_limit: 10,
             table: vec![1; 16],
+            ratio: 1_000,
+            budget: 200,
             sheet: vec![UNUSED_WORD; 8192],
             pattern,
             work: vec![UNUSED_BYTE; 160 * block.len()],
+            store: vec![UNUSED_BYTE; store_length(200)],
         }
     }
 
-    /// Random accepted arguments for a valid block. The pattern's bytes past the inputs are any, and
-    /// the work buffer may be longer than it has to be.
+    /// The same with this budget, and a case store as short as it may be.
+    pub fn with_budget(mut self, budget: u64) -> Self {
+        self.budget = budget;
+        self.store = vec![UNUSED_BYTE; store_length(budget)];
+        self
+    }
+
+    /// Random accepted arguments for a valid block, with a budget of at most 60. The buffers hold
+    /// noise, as do the pattern's bytes past the inputs; the work buffer and the case store may be
+    /// longer than they have to be.
     pub fn random(random: &mut Random, block: &[Record]) -> Self {
         let mut arguments = Arguments::new(block);
         let any = 1 + random.below(16);
@@ -50,10 +65,23 @@ impl Arguments {
         for (byte, input) in arguments.pattern.iter_mut().zip(inputs(block)) {
             *byte = random.pick(&allowed(input));
         }
-        let length = arguments.work.len() + random.pick(&[0, 1, 159, 160, 5000]);
-        arguments.work.resize(length, UNUSED_BYTE);
+        let (close, any) = (random.below(1_000), random.below(9_001));
+        arguments.ratio = random.pick(&[1_000, 1_000, 1_000 + close, 1_000 + any, 10_000]) as u64;
+        let (few, any) = (random.below(8), random.below(61));
+        arguments = arguments.with_budget(random.pick(&[0, few, few, any, 60]) as u64);
+        for buffer in [&mut arguments.work, &mut arguments.store] {
+            let length = buffer.len() + random.pick(&[0, 1, 71, 159, 160, 5000]);
+            buffer.resize(length, 0);
+            buffer.fill_with(|| random.byte(0, 255));
+        }
+        arguments.sheet.fill_with(|| random.bits() as u32);
         arguments
     }
+}
+
+/// How many bytes the case store needs for this budget.
+pub fn store_length(budget: u64) -> usize {
+    72 * (1 + 3 * budget as usize)
 }
 
 /// The inputs, which come first.
@@ -64,6 +92,19 @@ fn inputs(block: &[Record]) -> impl Iterator<Item = &Record> {
 /// The pattern bytes that an input's byte 18 allows.
 pub fn allowed(input: &Record) -> Vec<u8> {
     (0..4).filter(|byte| input[18] & (1 << byte) != 0).collect()
+}
+
+/// The first bytes, for the inputs, of every pattern of the block's frame.
+pub fn patterns(block: &[Record]) -> Vec<Vec<u8>> {
+    let mut patterns = vec![Vec::new()];
+    for input in inputs(block) {
+        let longer = patterns.iter().flat_map(|pattern: &Vec<u8>| {
+            let bytes = allowed(input).into_iter();
+            bytes.map(|byte| [&pattern[..], &[byte]].concat())
+        });
+        patterns = longer.collect();
+    }
+    patterns
 }
 
 /// A resistance: 0, a small one, any, or the greatest.

@@ -28,6 +28,32 @@ pub fn gate(kind: u8, pins: &[u16]) -> Record {
     record
 }
 
+/// The gate with this contact, delay, rise, fall, peak for lh and peak for hl.
+pub fn drawing(
+    mut gate: Record,
+    [contact, delay, rise, fall]: [u8; 4],
+    [lh, hl]: [u16; 2],
+) -> Record {
+    gate[1] = contact;
+    gate[2] = delay;
+    gate[12] = rise;
+    gate[13] = fall;
+    gate[14..16].copy_from_slice(&lh.to_le_bytes());
+    gate[16..18].copy_from_slice(&hl.to_le_bytes());
+    gate
+}
+
+/// The gate at contact 0, with a delay of 1, as one that draws its peaks for lh and hl at the tick of
+/// the transition alone.
+pub fn peaks(gate: Record, peaks: [u16; 2]) -> Record {
+    drawing(gate, [0, 1, 1, 1], peaks)
+}
+
+/// The gate as one that draws nothing, with this delay.
+pub fn silent(gate: Record, delay: u8) -> Record {
+    drawing(gate, [0, delay, 1, 1], [0, 0])
+}
+
 /// What a random block looks like.
 pub struct Shape {
     /// How many inputs: 1 to 64.

@@ -6,7 +6,7 @@ mod block;
 mod damage;
 mod random;
 
-pub use arguments::{allowed, Arguments};
-pub use block::{gate, input, Record, Shape};
+pub use arguments::{allowed, patterns, store_length, Arguments};
+pub use block::{drawing, gate, input, peaks, silent, Record, Shape};
 pub use damage::damage;
 pub use random::Random;

@@ -1,10 +1,11 @@
-//! The checks of the arguments other than the file: refusals 11, 12, 15 and 16
-//! of document 01. They come after Read's.
+//! The checks of the arguments other than the file: refusals 11 to 16 of document
+//! 01. They come after Read's.
 
 use super::block::Record;
 use super::current::SHEET_WORDS;
 use super::excitation::{Excitation, Signal, UncertaintySet};
 use super::read::refuse_if;
+use super::search::CASE_BYTES;
 use zimgurav::{Counts, Refusal};
 
 /// How many bytes of the work buffer a net needs.
@@ -25,6 +26,16 @@ pub fn check_table(table: &[u16]) -> Result<(), Refusal> {
     refuse_if(!right, 12, 0)
 }
 
+/// Refusal 13: The ratio is not 1,000 to 10,000.
+pub fn check_ratio(ratio: u64) -> Result<(), Refusal> {
+    refuse_if(!(1_000..=10_000).contains(&ratio), 13, 0)
+}
+
+/// Refusal 14: The budget exceeds 10,000.
+pub fn check_budget(budget: u64) -> Result<(), Refusal> {
+    refuse_if(budget > 10_000, 14, 0)
+}
+
 /// Refusal 15, place 1: the sheet is not exactly 8,192 words.
 pub fn check_sheet(sheet: &[u32]) -> Result<(), Refusal> {
     refuse_if(sheet.len() != SHEET_WORDS, 15, 1)
@@ -39,6 +50,13 @@ pub fn check_pattern_length(pattern: &[u8]) -> Result<(), Refusal> {
 pub fn check_work(work: &[u8], counts: Counts) -> Result<(), Refusal> {
     let length = work.len() as u64;
     refuse_if(length < WORK_BYTES_A_NET * counts.nets, 15, 3)
+}
+
+/// Refusal 15, place 4: the case store is not at least 72 × (1 + 3 × budget)
+/// bytes. The budget has passed its check.
+pub fn check_store(store: &[u8], budget: u64) -> Result<(), Refusal> {
+    let length = store.len() as u64;
+    refuse_if(length < CASE_BYTES as u64 * (1 + 3 * budget), 15, 4)
 }
 
 /// Refusal 16: A pattern byte for an input is above 3 or not allowed by byte 18.

@@ -1,5 +1,5 @@
 //! The records of the block file of document 01, taken apart into their fields, and
-//! the arrivals of their nets.
+//! the arrivals and fan-out cones of their nets.
 //!
 //! A record is 20 bytes. Nothing is checked here: a field holds whatever its
 //! bytes say, and the refusals are left to the reader.
@@ -104,4 +104,46 @@ pub fn arrival(record: &Record, arrivals: &[u16]) -> u16 {
         greatest = greatest.max(arrivals[usize::from(pin)]);
     }
     greatest + u16::from(record.delay)
+}
+
+/// How many gates stand in the net's fan-out cone: gates it feeds, directly or
+/// through others, each counted once. Pins are below their gates.
+pub fn cone(net: usize, records: &[Record]) -> usize {
+    let mut fed = vec![false; records.len()];
+    for (gate, record) in records.iter().enumerate() {
+        let mut pins = record.used_pins().map(usize::from);
+        fed[gate] = pins.any(|pin| pin == net || fed[pin]);
+    }
+    fed.iter().filter(|&&fed| fed).count()
+}
+
+#[cfg(test)]
+mod tests {
+    use super::*;
+    use crate::kind::{AND, BUF, NOT};
+    use crate::sample::{gate, input};
+
+    /// Block S: the cone of net 0 is 2.
+    #[test]
+    fn cone_of_block_s() {
+        let block = [input(15), gate(BUF, &[0]), gate(NOT, &[0])];
+        assert_eq!(cone(0, &records(&block.concat())), 2);
+    }
+
+    /// Net 3 feeds net 4 by two pins and net 5 through it; net 6 is fed by net 1 alone.
+    #[test]
+    fn cones_count_each_gate_once() {
+        let block = [
+            input(15),
+            input(15),
+            input(15),
+            gate(AND, &[0, 1]),
+            gate(AND, &[3, 3]),
+            gate(AND, &[4, 3, 0]),
+            gate(NOT, &[1]),
+        ];
+        let records = records(&block.concat());
+        let cones = [0, 1, 2, 3, 4, 5, 6].map(|net| cone(net, &records));
+        assert_eq!(cones, [3, 4, 0, 2, 1, 0, 0]);
+    }
 }

@@ -6,6 +6,7 @@ use super::block::{records, Record};
 use super::current::write_currents;
 use super::excitation::UncertaintySet;
 use super::fill::fill;
+use super::frame::Frame;
 use super::read::read;
 use super::waveform::Waveform;
 use zimgurav::{Currents, Refusal};
@@ -26,19 +27,35 @@ pub fn envelope(
     check_work(work, counts)?;
 
     let records = records(file);
-    let waveforms = filled_waveforms(&records, hop_limit);
-    Ok(write_currents(&records, &waveforms, table, sheet))
+    let frame = Frame::of_block(&records);
+    Ok(write_envelope(&records, &frame, hop_limit, table, sheet))
 }
 
-/// The sets of each net at each tick, by net number: an input's from byte 18, a
+/// Writes the envelope of a frame into the sheet and returns its drop and quiet
+/// tick.
+pub fn write_envelope(
+    records: &[Record],
+    frame: &Frame,
+    hop_limit: u64,
+    table: &[u16],
+    sheet: &mut [u32],
+) -> Currents {
+    let waveforms = filled_waveforms(records, frame, hop_limit);
+    write_currents(records, &waveforms, table, sheet)
+}
+
+/// The sets of each net at each tick, by net number: an input's from the frame, a
 /// gate's raw sets with their gaps filled. Ticks before 0 and input nets are
 /// never filled.
-fn filled_waveforms(records: &[Record], hop_limit: u64) -> Vec<Waveform<UncertaintySet>> {
+fn filled_waveforms(
+    records: &[Record],
+    frame: &Frame,
+    hop_limit: u64,
+) -> Vec<Waveform<UncertaintySet>> {
     let mut waveforms = Vec::new();
-    for record in records {
+    for (net, record) in records.iter().enumerate() {
         if record.is_input() {
-            let set = UncertaintySet::of_code(record.allowed);
-            waveforms.push(Waveform::of_input(set));
+            waveforms.push(Waveform::of_input(frame.sets[net]));
         } else {
             let mut waveform = Waveform::of_gate(record, &waveforms);
             fill(&mut waveform.ticks, hop_limit);

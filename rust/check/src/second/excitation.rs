@@ -47,6 +47,16 @@ impl Excitation {
         }
     }
 
+    /// The excitation's byte in a pattern: 0 l, 1 h, 2 hl, 3 lh.
+    pub fn pattern_byte(self) -> u8 {
+        match self {
+            Excitation::L => 0,
+            Excitation::H => 1,
+            Excitation::Hl => 2,
+            Excitation::Lh => 3,
+        }
+    }
+
     /// What byte 18 adds up for the excitation: 1 (l), 2 (h), 4 (hl), 8 (lh).
     fn code(self) -> u8 {
         match self {
@@ -76,6 +86,22 @@ impl UncertaintySet {
         UncertaintySet {
             members: Excitation::ALL.map(|excitation| code & excitation.code() != 0),
         }
+    }
+
+    /// The set with this one member.
+    pub fn of_one(excitation: Excitation) -> UncertaintySet {
+        UncertaintySet::of_code(excitation.code())
+    }
+
+    /// The set's code, a sum of 1 (l), 2 (h), 4 (hl), 8 (lh).
+    pub fn code(self) -> u8 {
+        self.members().map(Excitation::code).sum()
+    }
+
+    /// The members, in order l, h, hl, lh.
+    pub fn members(self) -> impl Iterator<Item = Excitation> {
+        let all = Excitation::ALL.into_iter();
+        all.filter(move |&excitation| self.has(excitation))
     }
 
     /// Puts an excitation into the set.

@@ -8,10 +8,13 @@ mod current;
 mod envelope;
 mod excitation;
 mod fill;
+mod frame;
 mod read;
+mod search;
 mod simulate;
 mod waveform;
 
 pub use envelope::envelope;
 pub use read::read;
+pub use search::search;
 pub use simulate::simulate;

@@ -26,8 +26,19 @@ pub fn simulate(
     let records = records(file);
     let excitations = check_pattern(pattern, &records)?;
 
-    let waveforms = waveforms(&records, &excitations);
-    Ok(write_currents(&records, &waveforms, table, sheet))
+    Ok(write_simulation(&records, &excitations, table, sheet))
+}
+
+/// Writes the currents of the inputs' excitations into the sheet and returns
+/// their drop and quiet tick.
+pub fn write_simulation(
+    records: &[Record],
+    excitations: &[Excitation],
+    table: &[u16],
+    sheet: &mut [u32],
+) -> Currents {
+    let waveforms = waveforms(records, excitations);
+    write_currents(records, &waveforms, table, sheet)
 }
 
 /// The excitation of each net at each tick, by net number.

@@ -1,0 +1,147 @@
+/* Search through the C header: block S of document 01 with each outcome, and a refusal. */
+#include <inttypes.h>
+#include <stdio.h>
+#include <string.h>
+
+#include "zimgurav.h"
+
+enum { NUMBERS = 6, RECORD = 20, NETS = 3, CONTACTS = 16, TICKS = 512, WORDS = CONTACTS * TICKS, PATTERN = 64 };
+enum { BUDGET = 200, CASE = 72, UPPER = 64, CASES = 1 + 3 * BUDGET };
+
+/* Nets 1 and 2 are BUF and NOT of net 0. Each draws current only where it rises, so only one of them does. */
+static const uint8_t block_s[NETS * RECORD] = {
+    1, 0, 0, 0, 0, 0, 0, 0, 0, 0, 0, 0, 0, 0, 0,  0, 0, 0, 15, 0,
+    9, 0, 1, 1, 0, 0, 0, 0, 0, 0, 0, 0, 1, 1, 10, 0, 0, 0, 0,  0,
+    8, 0, 1, 1, 0, 0, 0, 0, 0, 0, 0, 0, 1, 1, 10, 0, 0, 0, 0,  0,
+};
+
+/* One bus node, with a resistance to contact 0. */
+static const uint16_t table[CONTACTS] = {1};
+
+/* What a call is lent to write, and the answer. */
+struct lent {
+    uint32_t sheet[WORDS];
+    uint8_t pattern[PATTERN];
+    uint8_t work[160 * NETS];
+    uint8_t store[CASE * CASES];
+    uint64_t answer[NUMBERS];
+};
+
+static struct lent lent, untouched;
+
+/* Searches block S, with everything that a call may write filled before. */
+static void search(uint64_t ratio, uint64_t budget)
+{
+    memset(&untouched, 0xEE, sizeof untouched);
+    lent = untouched;
+    zimgurav_search(block_s, sizeof block_s, 10, table, CONTACTS, ratio, budget, lent.sheet, WORDS, lent.pattern,
+                    PATTERN, lent.work, sizeof lent.work, lent.store, sizeof lent.store, lent.answer);
+}
+
+/* Returns how many of the six numbers are not as expected. */
+static int check_answer(const char *name, const uint64_t expected[NUMBERS])
+{
+    int wrong = 0;
+
+    for (int i = 0; i < NUMBERS; i++) {
+        if (lent.answer[i] != expected[i]) {
+            fprintf(stderr, "%s: answer[%d] is %" PRIu64 ", not %" PRIu64 "\n", name, i, lent.answer[i], expected[i]);
+            wrong++;
+        }
+    }
+    return wrong;
+}
+
+/* Returns how many words of the sheet are not as expected: `current` at contact 0, tick 1, and 0 elsewhere. */
+static int check_sheet(const char *name, uint32_t current)
+{
+    int wrong = 0;
+
+    for (int word = 0; word < WORDS; word++) {
+        const uint32_t expected = word == 1 ? current : 0;
+
+        if (lent.sheet[word] != expected) {
+            fprintf(stderr, "%s: word %d of the sheet is %" PRIu32 ", not %" PRIu32 "\n", name, word, lent.sheet[word],
+                    expected);
+            wrong++;
+        }
+    }
+    return wrong;
+}
+
+/* Returns 1 if the bytes of a buffer are not as expected. */
+static int check_bytes(const char *name, const char *buffer, const void *bytes, const void *expected, size_t length)
+{
+    if (memcmp(bytes, expected, length) != 0) {
+        fprintf(stderr, "%s: the %s is not as expected\n", name, buffer);
+        return 1;
+    }
+    return 0;
+}
+
+/* Checks that the pattern is lh at net 0 and unchanged past it. */
+static int check_pattern(const char *name)
+{
+    uint8_t expected[PATTERN];
+
+    memcpy(expected, untouched.pattern, PATTERN);
+    expected[0] = 3;
+    return check_bytes(name, "pattern", lent.pattern, expected, PATTERN);
+}
+
+/* Checks that the store has these cases, by the set of net 0 and the upper number, and is unchanged past them. */
+static int check_store(const char *name, const uint8_t cases[][2], size_t count)
+{
+    uint8_t expected[sizeof lent.store];
+
+    memcpy(expected, untouched.store, sizeof expected);
+    memset(expected, 0, CASE * count);
+    for (size_t i = 0; i < count; i++) {
+        expected[CASE * i] = cases[i][0];
+        expected[CASE * i + UPPER] = cases[i][1];
+    }
+    return check_bytes(name, "store", lent.store, expected, sizeof expected);
+}
+
+/* Returns how many buffers a refused call has changed. */
+static int check_untouched(const char *name)
+{
+    return check_bytes(name, "sheet", lent.sheet, untouched.sheet, sizeof lent.sheet) +
+           check_bytes(name, "pattern", lent.pattern, untouched.pattern, sizeof lent.pattern) +
+           check_bytes(name, "work buffer", lent.work, untouched.work, sizeof lent.work) +
+           check_bytes(name, "store", lent.store, untouched.store, sizeof lent.store);
+}
+
+int main(void)
+{
+    const uint64_t exact[NUMBERS] = {0, 0, 10, 10, 1, 4};
+    const uint64_t within[NUMBERS] = {0, 1, 20, 10, 0, 1};
+    const uint64_t spent[NUMBERS] = {0, 2, 20, 10, 0, 1};
+    const uint64_t budget[NUMBERS] = {14};
+    const uint8_t whole_frame[][2] = {{15, 20}};
+    const uint8_t l_h_hl_lh[][2] = {{1, 0}, {2, 0}, {4, 10}, {8, 10}};
+    int wrong = 0;
+
+    search(1000, BUDGET);
+    wrong += check_answer("budget 200", exact);
+    wrong += check_sheet("budget 200", 10);
+    wrong += check_pattern("budget 200");
+    wrong += check_store("budget 200", l_h_hl_lh, 4);
+
+    search(2000, 0);
+    wrong += check_answer("ratio 2,000", within);
+    wrong += check_sheet("ratio 2,000", 20);
+    wrong += check_pattern("ratio 2,000");
+    wrong += check_store("ratio 2,000", whole_frame, 1);
+
+    search(1999, 0);
+    wrong += check_answer("ratio 1,999", spent);
+    wrong += check_sheet("ratio 1,999", 20);
+    wrong += check_pattern("ratio 1,999");
+    wrong += check_store("ratio 1,999", whole_frame, 1);
+
+    search(1000, 10001);
+    wrong += check_answer("budget 10,001", budget);
+    wrong += check_untouched("budget 10,001");
+    return wrong != 0;
+}

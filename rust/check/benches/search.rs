@@ -1,0 +1,14 @@
+//! The times of Search on full blocks: the library beside the second implementation with a small budget,
+//! and how the library's time grows with the budget.
+//!
+//! `rust/yardstick/run` measures it beside a third implementation too, where one is at hand.
+
+use check::implementation::{LIBRARY, SECOND};
+use check::measure::{compare_searches, full_blocks};
+
+fn main() {
+    for (name, arguments) in full_blocks() {
+        compare_searches(name, &arguments, &[10], &[LIBRARY, SECOND]);
+        compare_searches(name, &arguments, &[50, 200, 800, 10_000], &[LIBRARY]);
+    }
+}

@@ -1,0 +1,858 @@
+//! Search on document 01's examples, where each of its choices shows, and against Simulate. The expected
+//! answers and buffers are written from document 01, and both the library and the second implementation
+//! must give them.
+
+use check::implementation::{LIBRARY, SECOND};
+use check::kind::{AND, BUF, INPUT, NAND, NOT, XOR};
+use check::pattern::{H, HL, L, LH};
+use check::sample::{
+    drawing, gate, input, patterns, peaks, silent, Arguments, Random, Record, Shape,
+};
+use zimgurav::{Found, Outcome};
+
+/// The cases in a store: the sets of each one's inputs, and its upper number.
+type Cases<'a> = [(&'a [u8], u64)];
+
+/// What a search has to give.
+struct Expected<'a> {
+    outcome: Outcome,
+    upper: u64,
+    lower: u64,
+    splits: u64,
+    /// The pattern's bytes for the inputs.
+    pattern: &'a [u8],
+    cases: &'a Cases<'a>,
+    /// The sheet from contact 0, tick 0 on. It is 0 after what is written.
+    sheet: &'a [u32],
+}
+
+impl Expected<'_> {
+    /// The arguments as a search has to leave them, but for the work buffer.
+    fn buffers(&self, before: &Arguments) -> Arguments {
+        let mut after = before.clone();
+        after.sheet.fill(0);
+        after.sheet[..self.sheet.len()].copy_from_slice(self.sheet);
+        after.pattern[..self.pattern.len()].copy_from_slice(self.pattern);
+        for (record, (sets, upper)) in after.store.chunks_exact_mut(72).zip(self.cases) {
+            record[..64].fill(0);
+            record[..sets.len()].copy_from_slice(sets);
+            record[64..].copy_from_slice(&upper.to_le_bytes());
+        }
+        after
+    }
+}
+
+/// Checks the answer and each word of each buffer but the work buffer.
+#[track_caller]
+fn finds(arguments: &Arguments, expected: &Expected) {
+    let found = Found {
+        outcome: expected.outcome,
+        upper: expected.upper,
+        lower: expected.lower,
+        splits: expected.splits,
+        cases: expected.cases.len() as u64,
+    };
+    let after = expected.buffers(arguments);
+    for implementation in [LIBRARY, SECOND] {
+        let name = implementation.name;
+        let mut lent = arguments.clone();
+        assert_eq!(implementation.search(&mut lent), Ok(found), "{name}");
+        assert!(lent.file == after.file, "{name} changed the file");
+        assert!(lent.table == after.table, "{name} changed the table");
+        assert_eq!(lent.pattern, after.pattern, "{name}'s pattern");
+        assert!(lent.store == after.store, "{name}'s store");
+        let different = (0..8192).find(|&word| lent.sheet[word] != after.sheet[word]);
+        if let Some(word) = different {
+            let (is, not) = (lent.sheet[word], after.sheet[word]);
+            panic!("{name}: {is} instead of {not} at word {word} of the sheet");
+        }
+    }
+}
+
+/// BUF and NOT of a net. Each draws where it rises: no pattern has both, their envelopes do.
+fn pair(net: u16) -> [Record; 2] {
+    [BUF, NOT].map(|kind| peaks(gate(kind, &[net]), [10, 0]))
+}
+
+/// A block of at most five inputs, so that all patterns can be tried.
+fn small_block(random: &mut Random) -> Vec<Record> {
+    let shape = Shape {
+        inputs: 1 + random.below(5),
+        gates: 1 + random.below(24),
+        reach: random.pick(&[3, 8, 1024]),
+        delay: random.pick(&[1, 3, 6]),
+        slope: random.pick(&[1, 4, 20]),
+    };
+    shape.block(random)
+}
+
+/// How many inputs a block has.
+fn inputs(block: &[Record]) -> usize {
+    block.iter().filter(|record| record[0] == INPUT).count()
+}
+
+mod block_s {
+    use super::*;
+
+    fn arguments() -> Arguments {
+        let block = [&[input(15)], &pair(0)[..]].concat();
+        assert_eq!(
+            block.concat(),
+            include_bytes!("../../../examples/block_s.blk")
+        );
+        Arguments::new(&block)
+    }
+
+    const WITHOUT_A_SPLIT: Expected = Expected {
+        outcome: Outcome::Spent,
+        upper: 20,
+        lower: 10,
+        splits: 0,
+        pattern: &[LH],
+        cases: &[(&[15], 20)],
+        sheet: &[0, 20],
+    };
+
+    #[test]
+    fn is_exact_after_a_split() {
+        let expected = Expected {
+            outcome: Outcome::Exact,
+            upper: 10,
+            lower: 10,
+            splits: 1,
+            pattern: &[LH],
+            cases: &[(&[1], 0), (&[2], 0), (&[4], 10), (&[8], 10)],
+            sheet: &[0, 10],
+        };
+        for budget in [1, 2, 200, 10_000] {
+            finds(&arguments().with_budget(budget), &expected);
+        }
+        for ratio in [1_000, 1_999] {
+            let arguments = Arguments {
+                ratio,
+                ..arguments()
+            };
+            finds(&arguments, &expected);
+        }
+    }
+
+    #[test]
+    fn is_spent_without_a_budget() {
+        for ratio in [1_000, 1_500, 1_999] {
+            let arguments = Arguments {
+                ratio,
+                ..arguments().with_budget(0)
+            };
+            finds(&arguments, &WITHOUT_A_SPLIT);
+        }
+    }
+
+    #[test]
+    fn is_within_twice_the_lower_bound() {
+        let within = Expected {
+            outcome: Outcome::Within,
+            ..WITHOUT_A_SPLIT
+        };
+        for ratio in [2_000, 2_001, 10_000] {
+            for budget in [0, 1, 200] {
+                let arguments = Arguments {
+                    ratio,
+                    ..arguments().with_budget(budget)
+                };
+                finds(&arguments, &within);
+            }
+        }
+    }
+
+    /// A set without both edges has nothing to split. The probe is the first allowed of lh, hl, h, l.
+    #[test]
+    fn with_a_set_of_at_most_one_edge() {
+        let none = [(1, L), (2, H), (3, H)].map(|(set, probe)| (set, probe, 0));
+        let hl = [4, 5, 6, 7].map(|set| (set, HL, 10));
+        let lh = [8, 9, 10, 11].map(|set| (set, LH, 10));
+        for (set, probe, drop) in none.into_iter().chain(hl).chain(lh) {
+            let block = [&[input(set)], &pair(0)[..]].concat();
+            let expected = Expected {
+                outcome: Outcome::Exact,
+                upper: drop,
+                lower: drop,
+                splits: 0,
+                pattern: &[probe],
+                cases: &[(&[set], drop)],
+                sheet: &[0, drop as u32],
+            };
+            finds(&Arguments::new(&block), &expected);
+        }
+    }
+
+    /// Only the members of the set become children.
+    #[test]
+    fn with_a_set_of_both_edges() {
+        let children: [(u8, &Cases); 3] = [
+            (12, &[(&[4], 10), (&[8], 10)]),
+            (13, &[(&[1], 0), (&[4], 10), (&[8], 10)]),
+            (14, &[(&[2], 0), (&[4], 10), (&[8], 10)]),
+        ];
+        for (set, cases) in children {
+            let block = [&[input(set)], &pair(0)[..]].concat();
+            let expected = Expected {
+                outcome: Outcome::Exact,
+                upper: 10,
+                lower: 10,
+                splits: 1,
+                pattern: &[LH],
+                cases,
+                sheet: &[0, 10],
+            };
+            finds(&Arguments::new(&block), &expected);
+        }
+    }
+}
+
+mod block_f {
+    use super::*;
+
+    /// Block F with these resistances at contacts 0 and 1.
+    fn arguments(resistances: [u16; 2]) -> Arguments {
+        let not = drawing(gate(NOT, &[0]), [0, 1, 1, 2], [10, 20]);
+        let nand = drawing(gate(NAND, &[1, 2]), [1, 2, 2, 2], [30, 31]);
+        let block = [input(15), input(15), not, nand];
+        assert_eq!(
+            block.concat(),
+            include_bytes!("../../../examples/block_f.blk")
+        );
+        let mut arguments = Arguments::new(&block);
+        arguments.table = vec![0; 16];
+        arguments.table[..2].copy_from_slice(&resistances);
+        arguments
+    }
+
+    /// The pattern lh, lh drops as much as the envelope, at tick 2. The sheet is the envelope's.
+    #[test]
+    fn is_exact_without_a_split() {
+        let mut sheet = [0; 512 + 5];
+        sheet[..3].copy_from_slice(&[0, 20, 10]);
+        sheet[512..].copy_from_slice(&[0, 15, 31, 31, 15]);
+        for (resistances, drop) in [([2, 1], 55), ([1, 1], 41)] {
+            for hop_limit in 1..=16 {
+                let arguments = Arguments {
+                    hop_limit,
+                    ..arguments(resistances)
+                };
+                let expected = Expected {
+                    outcome: Outcome::Exact,
+                    upper: drop,
+                    lower: drop,
+                    splits: 0,
+                    pattern: &[LH, LH],
+                    cases: &[(&[15, 15], drop)],
+                    sheet: &sheet,
+                };
+                finds(&arguments, &expected);
+                finds(&arguments.with_budget(0), &expected);
+            }
+        }
+    }
+}
+
+mod without_gates {
+    use super::*;
+
+    /// Every drop is 0, and the probe is the first allowed of lh, hl, h, l at each of 64 inputs.
+    #[test]
+    fn is_exact() {
+        let sets: Vec<u8> = (0..64).map(|net| 1 + net % 15).collect();
+        let probe: Vec<u8> = sets
+            .iter()
+            .map(|set| match set {
+                1 => L,
+                2 | 3 => H,
+                4..8 => HL,
+                _ => LH,
+            })
+            .collect();
+        for inputs in [1, 2, 63, 64] {
+            let block: Vec<Record> = sets[..inputs].iter().copied().map(input).collect();
+            let expected = Expected {
+                outcome: Outcome::Exact,
+                upper: 0,
+                lower: 0,
+                splits: 0,
+                pattern: &probe[..inputs],
+                cases: &[(&sets[..inputs], 0)],
+                sheet: &[],
+            };
+            finds(&Arguments::new(&block), &expected);
+            finds(&Arguments::new(&block).with_budget(0), &expected);
+        }
+    }
+}
+
+/// Which case is split, at which input, and where its children go.
+mod splits {
+    use super::*;
+
+    /// Two inputs that allow everything, a pair of each, and these gates.
+    fn two_pairs(more: &[Record]) -> Vec<Record> {
+        [&[input(15); 2], &pair(0)[..], &pair(1), more].concat()
+    }
+
+    /// A search of two pairs after one split, with these cases.
+    #[track_caller]
+    fn first_split(block: &[Record], cases: &Cases) {
+        let expected = Expected {
+            outcome: Outcome::Spent,
+            upper: 30,
+            lower: 20,
+            splits: 1,
+            pattern: &[LH, LH],
+            cases,
+            sheet: &[0, 30],
+        };
+        finds(&Arguments::new(block).with_budget(1), &expected);
+    }
+
+    const AT_NET_0: [(&[u8], u64); 4] = [
+        (&[1, 15], 20),
+        (&[2, 15], 20),
+        (&[4, 15], 30),
+        (&[8, 15], 30),
+    ];
+
+    const AT_NET_1: [(&[u8], u64); 4] = [
+        (&[15, 1], 20),
+        (&[15, 2], 20),
+        (&[15, 4], 30),
+        (&[15, 8], 30),
+    ];
+
+    #[test]
+    fn at_the_lowest_net_on_a_tie() {
+        first_split(&two_pairs(&[]), &AT_NET_0);
+        let one_more_each = [0, 1].map(|net| silent(gate(BUF, &[net]), 1));
+        first_split(&two_pairs(&one_more_each), &AT_NET_0);
+    }
+
+    /// Nets 2 and 3 are the pair of net 0, nets 4 and 5 that of net 1.
+    #[test]
+    fn at_the_input_with_most_gates() {
+        for pin in [1, 4, 5] {
+            let more = silent(gate(NOT, &[pin]), 1);
+            first_split(&two_pairs(&[more]), &AT_NET_1);
+        }
+        for pin in [0, 2, 3] {
+            let more = silent(gate(NOT, &[pin]), 1);
+            first_split(&two_pairs(&[more]), &AT_NET_0);
+        }
+    }
+
+    /// Net 6 is fed by net 0 on four pins, directly and through its pair, and counts once. Nets 7 and
+    /// 8 are fed by net 1, the second through the first.
+    #[test]
+    fn counts_each_gate_once() {
+        let more = [
+            silent(gate(AND, &[0, 0, 2, 3]), 1),
+            silent(gate(BUF, &[1]), 1),
+            silent(gate(BUF, &[7]), 1),
+        ];
+        first_split(&two_pairs(&more), &AT_NET_1);
+    }
+
+    /// A gate that both inputs feed counts for each.
+    #[test]
+    fn counts_a_gate_for_each_input() {
+        let both = silent(gate(AND, &[0, 1]), 1);
+        first_split(&two_pairs(&[both]), &AT_NET_0);
+        let one = silent(gate(BUF, &[1]), 1);
+        first_split(&two_pairs(&[both, one]), &AT_NET_1);
+    }
+
+    /// The first of several cases with U is split. Its first child takes its place.
+    #[test]
+    fn the_first_case_with_the_greatest_upper_number() {
+        let arguments = Arguments::new(&two_pairs(&[]));
+        let spent = Expected {
+            outcome: Outcome::Spent,
+            upper: 30,
+            lower: 20,
+            splits: 2,
+            pattern: &[LH, LH],
+            cases: &[
+                (&[1, 15], 20),
+                (&[2, 15], 20),
+                (&[4, 1], 10),
+                (&[8, 15], 30),
+                (&[4, 2], 10),
+                (&[4, 4], 20),
+                (&[4, 8], 20),
+            ],
+            sheet: &[0, 30],
+        };
+        finds(&arguments.clone().with_budget(2), &spent);
+        let exact = Expected {
+            outcome: Outcome::Exact,
+            upper: 20,
+            lower: 20,
+            splits: 3,
+            pattern: &[LH, LH],
+            cases: &[
+                (&[1, 15], 20),
+                (&[2, 15], 20),
+                (&[4, 1], 10),
+                (&[8, 1], 10),
+                (&[4, 2], 10),
+                (&[4, 4], 20),
+                (&[4, 8], 20),
+                (&[8, 2], 10),
+                (&[8, 4], 20),
+                (&[8, 8], 20),
+            ],
+            sheet: &[0, 20],
+        };
+        finds(&arguments.clone().with_budget(3), &exact);
+        finds(&arguments, &exact);
+    }
+
+    /// Net 0 has most gates, but its set has one member.
+    #[test]
+    fn at_no_decided_input() {
+        let mut block = two_pairs(&[silent(gate(BUF, &[0]), 1)]);
+        block[0] = input(4);
+        let expected = Expected {
+            outcome: Outcome::Exact,
+            upper: 20,
+            lower: 20,
+            splits: 1,
+            pattern: &[HL, LH],
+            cases: &[(&[4, 1], 10), (&[4, 2], 10), (&[4, 4], 20), (&[4, 8], 20)],
+            sheet: &[0, 20],
+        };
+        finds(&Arguments::new(&block), &expected);
+    }
+}
+
+/// Which pattern the search hands over.
+mod handed_over {
+    use super::*;
+
+    /// The probe of the whole frame, lh, drops 5; that of the third child, hl, 10.
+    #[test]
+    fn is_a_later_probe_that_drops_more() {
+        let block = [input(15), peaks(gate(BUF, &[0]), [5, 10])];
+        let expected = Expected {
+            outcome: Outcome::Exact,
+            upper: 10,
+            lower: 10,
+            splits: 1,
+            pattern: &[HL],
+            cases: &[(&[1], 0), (&[2], 0), (&[4], 10), (&[8], 5)],
+            sheet: &[0, 10],
+        };
+        finds(&Arguments::new(&block), &expected);
+    }
+
+    /// Net 4 draws in envelopes alone, as it joins net 1 with itself. The probe of the case hl, any
+    /// is hl, lh. It reaches 10 first, and so do later those of its children.
+    #[test]
+    fn is_the_first_of_several_that_drop_as_much() {
+        let block = [
+            input(15),
+            input(15),
+            peaks(gate(BUF, &[0]), [5, 10]),
+            silent(gate(BUF, &[0]), 1),
+            peaks(gate(XOR, &[1, 1]), [10, 10]),
+        ];
+        let expected = Expected {
+            outcome: Outcome::Exact,
+            upper: 10,
+            lower: 10,
+            splits: 3,
+            pattern: &[HL, LH],
+            cases: &[
+                (&[1, 15], 10),
+                (&[2, 15], 10),
+                (&[4, 1], 10),
+                (&[8, 1], 5),
+                (&[4, 2], 10),
+                (&[4, 4], 10),
+                (&[4, 8], 10),
+                (&[8, 2], 5),
+                (&[8, 4], 5),
+                (&[8, 8], 5),
+            ],
+            sheet: &[0, 10],
+        };
+        finds(&Arguments::new(&block), &expected);
+    }
+}
+
+/// The upper numbers and the sheet: which case is simulated, which has an envelope, and the cap.
+mod bounds {
+    use super::*;
+
+    /// One gate that draws 10 where net 0 makes it rise, at ticks 2 and 9, and one that draws 100 at
+    /// tick 5. The envelope with one hop fills ticks 2 to 9 of the first.
+    fn filled_between(inputs: &[Record]) -> Arguments {
+        let delayed = [1, 3, 8, 4].map(|delay| silent(gate(BUF, &[0]), delay));
+        let first = inputs.len() as u16;
+        let xor = peaks(gate(XOR, &[first, first + 1, first + 2]), [10, 0]);
+        let buf = peaks(gate(BUF, &[first + 3]), [100, 0]);
+        Arguments {
+            hop_limit: 1,
+            ..Arguments::new(&[inputs, &delayed, &[xor, buf]].concat())
+        }
+    }
+
+    const FILLED: [u32; 10] = [0, 0, 10, 10, 10, 110, 10, 10, 10, 10];
+    const SIMULATED: [u32; 10] = [0, 0, 10, 0, 0, 100, 0, 0, 0, 10];
+
+    /// The trap of reading a decided case's drop from the envelope, which is 110.
+    #[test]
+    fn are_simulated_where_every_input_is_decided() {
+        let expected = Expected {
+            outcome: Outcome::Exact,
+            upper: 100,
+            lower: 100,
+            splits: 0,
+            pattern: &[LH],
+            cases: &[(&[8], 100)],
+            sheet: &SIMULATED,
+        };
+        finds(&filled_between(&[input(8)]), &expected);
+    }
+
+    /// Net 1 feeds no gate, but the case is decided only once net 1 is.
+    #[test]
+    fn are_of_the_envelope_where_an_input_is_undecided() {
+        let arguments = filled_between(&[input(8), input(15)]);
+        let spent = Expected {
+            outcome: Outcome::Spent,
+            upper: 110,
+            lower: 100,
+            splits: 0,
+            pattern: &[LH, LH],
+            cases: &[(&[8, 15], 110)],
+            sheet: &FILLED,
+        };
+        finds(&arguments.clone().with_budget(0), &spent);
+        let exact = Expected {
+            outcome: Outcome::Exact,
+            upper: 100,
+            lower: 100,
+            splits: 1,
+            pattern: &[LH, LH],
+            cases: &[
+                (&[8, 1], 100),
+                (&[8, 2], 100),
+                (&[8, 4], 100),
+                (&[8, 8], 100),
+            ],
+            sheet: &SIMULATED,
+        };
+        finds(&arguments.with_budget(1), &exact);
+    }
+
+    /// The trap of trusting a child to be below its parent. With two hops net 11 may rise at ticks 2,
+    /// 4 to 8 and 10, and tick 3 is filled. Where net 1 is l, it may rise at ticks 2, 8 and 10, and
+    /// tick 9 is filled, at which nets 13 and 14 draw 200. The sheet has no cap.
+    #[test]
+    fn are_capped_by_the_parent() {
+        let delayed = |net, delay| silent(gate(BUF, &[net]), delay);
+        let block = [
+            input(1 + 8),
+            input(1 + 8),
+            input(15),
+            delayed(0, 1),
+            delayed(0, 7),
+            delayed(0, 9),
+            delayed(1, 2),
+            delayed(1, 3),
+            delayed(1, 4),
+            delayed(1, 5),
+            silent(gate(XOR, &[6, 7, 8, 9]), 1),
+            peaks(gate(XOR, &[3, 4, 5, 10]), [10, 0]),
+            delayed(2, 8),
+            peaks(gate(BUF, &[12]), [100, 0]),
+            peaks(gate(NOT, &[12]), [100, 0]),
+        ];
+        let arguments = Arguments {
+            hop_limit: 2,
+            ..Arguments::new(&block)
+        };
+        let whole = Expected {
+            outcome: Outcome::Spent,
+            upper: 200,
+            lower: 100,
+            splits: 0,
+            pattern: &[LH, LH, LH],
+            cases: &[(&[9, 9, 15], 200)],
+            sheet: &[0, 0, 10, 10, 10, 10, 10, 10, 10, 200, 10],
+        };
+        finds(&arguments.clone().with_budget(0), &whole);
+        let split = Expected {
+            splits: 1,
+            cases: &[(&[9, 1, 15], 200), (&[9, 8, 15], 200)],
+            sheet: &[0, 0, 10, 10, 10, 10, 10, 10, 10, 210, 10],
+            ..whole
+        };
+        finds(&arguments.with_budget(1), &split);
+    }
+
+    /// Net 1 joins net 0 with itself, which draws in the envelope alone. No ratio reaches from 0.
+    #[test]
+    fn of_no_drop() {
+        let block = [input(15), peaks(gate(XOR, &[0, 0]), [10, 10])];
+        let arguments = Arguments {
+            ratio: 10_000,
+            ..Arguments::new(&block)
+        };
+        let spent = Expected {
+            outcome: Outcome::Spent,
+            upper: 10,
+            lower: 0,
+            splits: 0,
+            pattern: &[LH],
+            cases: &[(&[15], 10)],
+            sheet: &[0, 10],
+        };
+        finds(&arguments.clone().with_budget(0), &spent);
+        let exact = Expected {
+            outcome: Outcome::Exact,
+            upper: 0,
+            lower: 0,
+            splits: 1,
+            pattern: &[LH],
+            cases: &[(&[1], 0), (&[2], 0), (&[4], 0), (&[8], 0)],
+            sheet: &[],
+        };
+        finds(&arguments, &exact);
+    }
+
+    /// As many gates as there can be, each with the greatest peak, at the greatest resistance.
+    #[test]
+    fn at_their_greatest() {
+        let rising = |kind| peaks(gate(kind, &[0]), [65_535, 0]);
+        let block = [&[input(12)], &[rising(BUF); 512][..], &[rising(NOT); 511]].concat();
+        let arguments = Arguments {
+            table: vec![65_535; 256],
+            ..Arguments::new(&block)
+        };
+        let drop = |gates: u64| 65_535 * 65_535 * gates;
+        let spent = Expected {
+            outcome: Outcome::Spent,
+            upper: drop(1023),
+            lower: drop(512),
+            splits: 0,
+            pattern: &[LH],
+            cases: &[(&[12], drop(1023))],
+            sheet: &[0, 65_535 * 1023],
+        };
+        // 1000 * 1023 is above 1998 * 512, and at most 1999 * 512.
+        let mut at_ratio = arguments.clone().with_budget(0);
+        at_ratio.ratio = 1_998;
+        finds(&at_ratio, &spent);
+        at_ratio.ratio = 1_999;
+        let within = Expected {
+            outcome: Outcome::Within,
+            ..spent
+        };
+        finds(&at_ratio, &within);
+        let exact = Expected {
+            outcome: Outcome::Exact,
+            upper: drop(512),
+            lower: drop(512),
+            splits: 1,
+            pattern: &[LH],
+            cases: &[(&[4], drop(511)), (&[8], drop(512))],
+            sheet: &[0, 65_535 * 512],
+        };
+        finds(&arguments, &exact);
+    }
+}
+
+mod buffers {
+    use super::*;
+
+    /// What stood in the buffers, and how long those are that may be longer, do not matter.
+    #[test]
+    fn to_write_may_hold_anything() {
+        let mut random = Random::new(7);
+        for _ in 0..100 {
+            let block = small_block(&mut random);
+            let arguments = Arguments::random(&mut random, &block);
+            let inputs = inputs(&block);
+            let mut clean = Arguments {
+                work: vec![0; 160 * block.len()],
+                ..arguments.clone().with_budget(arguments.budget)
+            };
+            let found = LIBRARY.search(&mut clean).expect("accepted");
+            let cases = 72 * found.cases as usize;
+            for more in [0, 1, 72, 1 << 16] {
+                let mut dirty = arguments.clone();
+                dirty.sheet.fill_with(|| random.bits() as u32);
+                dirty.work.resize(160 * block.len() + more, 0);
+                dirty.store.resize(clean.store.len() + more, 0);
+                for buffer in [&mut dirty.pattern, &mut dirty.work, &mut dirty.store] {
+                    buffer.fill_with(|| random.byte(0, 255));
+                }
+                let before = dirty.clone();
+                // Twice, the second time with what the first call left.
+                for _ in 0..2 {
+                    assert_eq!(LIBRARY.search(&mut dirty), Ok(found));
+                    assert!(dirty.file == before.file);
+                    assert!(dirty.table == before.table);
+                    assert!(dirty.sheet == clean.sheet);
+                    assert!(dirty.pattern[..inputs] == clean.pattern[..inputs]);
+                    assert!(dirty.pattern[inputs..] == before.pattern[inputs..]);
+                    assert!(dirty.store[..cases] == clean.store[..cases]);
+                    assert!(dirty.store[cases..] == before.store[cases..]);
+                }
+            }
+        }
+    }
+}
+
+/// Search against Simulate, by every pattern of small frames.
+mod agreement {
+    use super::*;
+
+    /// A search that was made: the arguments as it left them and its answer.
+    struct Searched {
+        lent: Arguments,
+        found: Found,
+    }
+
+    impl Searched {
+        fn new(mut arguments: Arguments) -> Searched {
+            let found = LIBRARY.search(&mut arguments).expect("accepted");
+            Searched {
+                lent: arguments,
+                found,
+            }
+        }
+
+        /// The outcome is the word for the bounds, and spent comes with the whole budget.
+        fn has_the_right_outcome(&self) {
+            let Found {
+                upper,
+                lower,
+                splits,
+                ..
+            } = self.found;
+            let Arguments { ratio, budget, .. } = self.lent;
+            let expected = if upper == lower {
+                Outcome::Exact
+            } else if 1000 * upper <= ratio * lower {
+                Outcome::Within
+            } else {
+                assert_eq!(splits, budget);
+                Outcome::Spent
+            };
+            assert_eq!(self.found.outcome, expected);
+            assert!(lower <= upper && splits <= budget);
+        }
+
+        /// The pattern handed over is accepted and drops exactly L.
+        fn hands_over_a_pattern(&self) {
+            let currents = LIBRARY.simulate(&mut self.lent.clone());
+            assert_eq!(currents.expect("accepted").drop, self.found.lower);
+        }
+
+        /// The cases in the store: each one's sets and upper number.
+        fn cases(&self) -> impl Iterator<Item = (&[u8], u64)> {
+            let records = self.lent.store.as_chunks::<72>().0;
+            let records = &records[..self.found.cases as usize];
+            records.iter().map(|record| {
+                let (sets, upper) = record.split_at(64);
+                (sets, u64::from_le_bytes(upper.try_into().expect("8 bytes")))
+            })
+        }
+
+        /// U is the greatest upper number in the store.
+        fn has_the_greatest_upper_number(&self) {
+            let uppers = self.cases().map(|(_, upper)| upper);
+            assert_eq!(uppers.max(), Some(self.found.upper));
+        }
+
+        /// The pattern draws at most the sheet in each word and drops at most U; it is in exactly one
+        /// case, and drops at most its upper number.
+        fn is_above(&self, pattern: &[u8], drop: u64, sheet: &[u32]) {
+            assert!(drop <= self.found.upper);
+            let mut words = sheet.iter().zip(&self.lent.sheet);
+            assert!(words.all(|(current, ceiling)| current <= ceiling));
+            let mut holding = self.cases().filter(|(sets, _)| {
+                let mut bytes = pattern.iter().zip(*sets);
+                bytes.all(|(byte, set)| set & (1 << byte) != 0)
+            });
+            let (_, upper) = holding.next().expect("a case holds the pattern");
+            assert!(drop <= upper);
+            assert!(holding.next().is_none(), "two cases hold the pattern");
+        }
+    }
+
+    /// Two searches of the same file and table, which differ in all else.
+    fn two_searches(random: &mut Random, block: &[Record]) -> [Searched; 2] {
+        let first = Arguments::random(random, block);
+        let mut second = Arguments::random(random, block);
+        second.table.clone_from(&first.table);
+        second.hop_limit = 1 + (first.hop_limit + random.below(15) as u64) % 16;
+        [first, second].map(Searched::new)
+    }
+
+    /// Demand 3, on small frames.
+    #[test]
+    fn with_every_pattern() {
+        let mut random = Random::new(8);
+        let mut outcomes = [0; 3];
+        let mut patterns_below = 0;
+        for _ in 0..2_000 {
+            let block = small_block(&mut random);
+            let searches = two_searches(&mut random, &block);
+            for searched in &searches {
+                searched.has_the_right_outcome();
+                searched.hands_over_a_pattern();
+                searched.has_the_greatest_upper_number();
+                outcomes[searched.found.outcome as usize] += 1;
+            }
+            let mut under = searches[0].lent.clone();
+            for pattern in patterns(&block) {
+                under.pattern[..pattern.len()].copy_from_slice(&pattern);
+                let drop = LIBRARY.simulate(&mut under).expect("accepted").drop;
+                for searched in &searches {
+                    searched.is_above(&pattern, drop, &under.sheet);
+                    patterns_below += usize::from(0 < drop && drop < searched.found.upper);
+                }
+            }
+        }
+        println!("exact, within, spent: {outcomes:?}, drops below U: {patterns_below}");
+        assert!(outcomes.iter().all(|&times| times >= 200), "{outcomes:?}");
+        assert!(patterns_below >= 10_000, "U is hardly ever above a drop");
+    }
+
+    /// With N patterns a budget of N - 1 is never spent. With fewer than the splits that the search
+    /// makes it is, and with as many it is not.
+    #[test]
+    fn of_budget_and_patterns() {
+        let mut random = Random::new(9);
+        let mut split = 0;
+        for _ in 0..200 {
+            let block = small_block(&mut random);
+            let mut arguments = Arguments::random(&mut random, &block);
+            arguments.ratio = random.pick(&[1_000, 1_000, 1_050]);
+            let enough = patterns(&block).len() as u64 - 1;
+            let searched = Searched::new(arguments.clone().with_budget(enough));
+            assert_ne!(searched.found.outcome, Outcome::Spent);
+            let splits = searched.found.splits;
+            let same = Searched::new(arguments.clone().with_budget(splits));
+            assert_eq!(same.found, searched.found);
+            if splits > 0 {
+                let fewer = Searched::new(arguments.with_budget(splits - 1));
+                assert_eq!(fewer.found.outcome, Outcome::Spent);
+                assert_eq!(fewer.found.splits, splits - 1);
+                split += 1;
+            }
+        }
+        println!("split: {split}");
+        assert!(split >= 50, "hardly anything was split: {split}");
+    }
+}
