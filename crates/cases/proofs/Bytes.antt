@@ -13,7 +13,7 @@ use Rattle.laws.specs.Turn.{listBelow}
 use Rattle.laws.proofs.Lists.{getD-any}
 use Rattle.laws.proofs.Turn.{list-at, list-long}
 use Rattle.excitation.specs.Excitation.{l, excitationOf, byteOf, patternOf}
-use Rattle.excitation.specs.UncertaintySet.{empty, code, decode, setsIn}
+use Rattle.excitation.specs.UncertaintySet.{empty, code, setsIn}
 use Rattle.excitation.specs.declared.Excitation.{Excitation}
 use Rattle.excitation.proofs.Bytes.{byte-forth}
 use Rattle.excitation.proofs.Codes.{code-decode}
@@ -21,6 +21,7 @@ use Rattle.cases.specs.Case.{Case}
 use Rattle.cases.specs.Search.{StoredCase, noCase}
 use Rattle.cases.specs.Store.{numberBytes, setBytes, recordBytes, storeBytes, storeWith, patternWith}
 use Rattle.cases.specs.Records.{upperIn, caseIn, casesIn, SetCodes, HasCases}
+use Rattle.cases.proofs.Codes.{set-at, sets-long}
 use Rattle.cases.proofs.Numbers.{number-long}
 use Rattle.cases.proofs.Records.{cases-long, case-at}
 
@@ -48,16 +49,8 @@ set-bytes-long case h =
     ∙ omega (arith, length-map case code, length-replicate {A = ℕ} (64 - length case) 0)
 
 module _ (inputs : ℕ) (codes : List ℕ) where
-  sets-long : length (setsIn inputs codes) ≡ inputs
-  unfolding setsIn
-  sets-long = list-long inputs (λ net. decode (getD codes net 0))
-
-  set-of : (net : ℕ) → net < inputs → getD (setsIn inputs codes) net empty ≡ decode (getD codes net 0)
-  unfolding setsIn
-  set-of net h = list-at inputs (λ net. decode (getD codes net 0)) net empty h
-
   codes-long : length (map code (setsIn inputs codes)) ≡ inputs
-  codes-long = length-map (setsIn inputs codes) code ∙ sets-long
+  codes-long = length-map (setsIn inputs codes) code ∙ sets-long inputs codes
 
   set-bytes-at : SetCodes inputs codes → (j : ℕ) → j < 64 → getD (setBytes (setsIn inputs codes)) j 0 ≡ getD codes j 0
   unfolding setBytes
@@ -67,12 +60,12 @@ module _ (inputs : ℕ) (codes : List ℕ) where
       cases (ltb j inputs)
       (λ t. let m = ltb-true j inputs t in
       List·getD-append (map code sets) zeros 0 j (omega (arith, codes-long))
-      ∙ map-at code sets j empty (omega (arith, sets-long))
-      ∙ ap code (set-of j m)
+      ∙ map-at code sets j empty (omega (arith, sets-long inputs codes))
+      ∙ ap code (set-at inputs codes j m)
       ∙ code-decode (getD codes j 0) (omega (arith, coded .high j m)))
       (λ t. let m = ltb-false j inputs t in
       after-first (map code sets) zeros inputs j 0 codes-long m
-      ∙ getD-replicate (64 - length sets) (j - inputs) 0 0 (omega (arith, sets-long))
+      ∙ getD-replicate (64 - length sets) (j - inputs) 0 0 (omega (arith, sets-long inputs codes))
       ∙ sym (coded .none j m h))
 
 -- The bytes of cases: 72 for each, of which none has more than 64 inputs.

@@ -7,13 +7,12 @@ use mathlib.Core.Path.{_≡_}
 use native.Mathlib.Omega.{arith}
 use lib.ListN.{length, getD}
 use borrow.Table.Steps.{cases}
-use Rattle.laws.proofs.Below.{max-at}
+use Rattle.laws.proofs.Below.{max-at, first-greatest-is}
 use Rattle.excitation.specs.UncertaintySet.{UncertaintySet, empty}
 use Rattle.cases.specs.Case.{undecided}
 use Rattle.cases.specs.Choice.{rankOf, rank, chosenInput}
 use Rattle.cases.specs.Promise.{Chooses}
 use Rattle.cases.proofs.Cases.{some-undecided}
-use Rattle.laws.proofs.Below.{first-greatest-is}
 
 undecided-ranks : (s : UncertaintySet) (cone : ℕ) → undecided s ≡ true → 1 ≤ rankOf s cone
 unfolding rankOf

@@ -13,11 +13,10 @@ use borrow.Author.Tests.{ltb-true, leb-true, eqb-true}
 use Rattle.excitation.specs.Excitation.{l, excitationOf}
 use Rattle.excitation.specs.UncertaintySet.{UncertaintySet, member, _∈_, empty, single, size}
 use Rattle.excitation.specs.declared.Excitation.{Excitation}
-use Rattle.excitation.proofs.Finite.{for-each, every-at}
+use Rattle.excitation.proofs.Finite.{for-each, every-at, at-members}
 use Rattle.block.specs.Block.{Choice, choiceCount}
 use Rattle.cases.specs.Case.{Case, undecided, decided, membersBelow, childrenBelow, children}
 use Rattle.cases.specs.Search.{StoredCase, noCase, placed, madeUnder}
-use Rattle.excitation.proofs.Finite.{at-members}
 use Rattle.cases.proofs.Cases.{narrowed, some-undecided}
 
 -- Sums over lists

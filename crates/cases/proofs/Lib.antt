@@ -2,8 +2,8 @@ pub mod Codes
 pub mod Scan
 pub mod Cones
 pub mod Numbers
-pub mod Written
 pub mod Records
+pub mod Written
 pub mod Bytes
 pub mod Cases
 pub mod Splits

@@ -1,4 +1,5 @@
--- What a search gives is right, whatever the simulation, the bound and the choice of inputs, and its sheet is above every pattern's.
+-- What a search gives is right, with every bound that keeps its promise and every choice that takes an undecided input, and its sheet is
+-- above every pattern's.
 -- Assumes nothing.
 use Prim.Native.Nat.{ℕ, zero, suc, _+_, _≤_, _<_}
 use mathlib.Core.Bool.{true, false}
@@ -21,7 +22,7 @@ use Rattle.cases.specs.Promise.{Bounds, Chooses, Covered, Right}
 use Rattle.cases.specs.declared.Outcome.{Outcome}
 use Rattle.cases.specs.declared.Outcome.the-variants.{Exact, Within, Spent}
 use Rattle.cases.proofs.Cases.{child-filled, child-inside, child-covers, taken-decided, taken-holds, undecided-inside}
-use Rattle.cases.proofs.Splits.{placed-from, placed-new, placed-kept, covered-by, covering, upper-below, next-inside, next-upper, next-member}
+use Rattle.cases.proofs.Splits.{member-at, placed-from, placed-new, placed-kept, covered-by, covering, upper-below, next-inside, next-upper, next-member}
 use Rattle.cases.proofs.Counts.{sumOver, sum-more, some-choice, two-choices, children-sum, children-long, storedChoices, made-choices, placed-choices, placed-long}
 
 -- Outcomes
@@ -241,7 +242,7 @@ module _ (simulated : List Excitation → ℕ) (bound choose : Case → ℕ) (fr
     ended : (budget splits : ℕ) (state : State) (outcome : Outcome) → outcomeAt ratio state ≡ outcome → splits ≤ budget
         → (outcome ≡ Spent → splits ≡ budget) → Standing simulated frame splits state
         → Right simulated ratio budget frame (record { outcome = outcome; splits = splits; state = state })
-    unfolding outcomeAt
+    unfolding outcomeAt setsAt
     ended budget splits state outcome e few spent standing = record {
       above = upper-above splits state standing;
       chosen = standing .best .chosen;
@@ -255,6 +256,7 @@ module _ (simulated : List Excitation → ℕ) (bound choose : Case → ℕ) (fr
         more-patterns splits state standing
             (parent-undecided splits state standing (spent-apart ratio (greatestUpper (state .cases)) (state .best .lower) (e ∙ s))),
       );
+      inside = λ k h choice. standing .known (member-at (state .cases) k noCase h) .inside choice;
       covered = standing .covered;
     }
 

@@ -6,17 +6,16 @@ use mathlib.Core.Logic.{_⊎_, inl, inr, ⊎-elim}
 use mathlib.Core.Path.{_≡_, refl, sym, subst}
 use native.Mathlib.Omega.{arith}
 use lib.ListN.{length, getD, set}
-use Rattle.laws.proofs.Below.{max-at}
+use Rattle.laws.proofs.Below.{max-at, first-greatest-inside, first-greatest-is}
 use Rattle.excitation.specs.declared.Excitation.{Excitation}
 use Rattle.block.specs.Block.{Choice}
 use Rattle.cases.specs.Search.{StoredCase, noCase, upperAt, setsAt, greatestUpper, nextSplit, placed}
 use Rattle.cases.specs.Promise.{Covered}
-use Rattle.laws.proofs.Below.{first-greatest-inside, first-greatest-is}
 
 -- Members of a list, by their numbers
 
 module _ {A : Type 0} where
-  member-at : (xs : List A) (k : ℕ) (d : A) → k < length xs → List·Memᴰ (getD xs k d) xs
+  pub member-at : (xs : List A) (k : ℕ) (d : A) → k < length xs → List·Memᴰ (getD xs k d) xs
   member-at [] k d h = absurd (omega arith)
   member-at (x ∷ rest) zero d h = List·Memᴰ·head refl
   member-at (x ∷ rest) (suc k) d h = List·Memᴰ·tail (member-at rest k d (omega arith))

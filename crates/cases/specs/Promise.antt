@@ -25,7 +25,7 @@ pub record Covered (pattern : List Excitation) (cases : List StoredCase) : Type 
   pub inside : number < length cases
   pub choice : Choice pattern (setsAt cases number)
 
--- What a search of a frame gives, whatever the bound and the choice of inputs.
+-- What a search of a frame gives, with every bound that keeps its promise and every choice that takes an undecided input.
 pub record Right (simulated : List Excitation → ℕ) (ratio budget : ℕ) (frame : Case) (found : Found) : Type 0 where
   -- No pattern of the frame drops more than U.
   pub above : {pattern : List Excitation} → Choice pattern frame → simulated pattern ≤ greatestUpper (found .state .cases)
@@ -34,9 +34,12 @@ pub record Right (simulated : List Excitation → ℕ) (ratio budget : ℕ) (fra
   pub reached : simulated (found .state .best .pattern) ≡ found .state .best .lower
   -- The outcome is what U and L say.
   pub outcome : found .outcome ≡ outcomeOf ratio (greatestUpper (found .state .cases)) (found .state .best .lower)
-  -- Spent means that the budget is used up, and that there are more patterns than that.
+  -- No more is split than the budget allows. Spent means that all of it was used, and that the frame has at least two patterns more
+  -- than the budget.
   pub few : found .splits ≤ budget
   pub spent : found .outcome ≡ Spent → found .splits ≡ budget
   pub enough : found .outcome ≡ Spent → budget + 2 ≤ choiceCount frame
-  -- Every pattern of the frame is one of a case in the store.
+  -- A case is a frame inside the block's, and every pattern of the frame is one of a case in the store.
+  pub inside : {pattern : List Excitation} (k : ℕ) → k < length (found .state .cases) → Choice pattern (setsAt (found .state .cases) k)
+      → Choice pattern frame
   pub covered : {pattern : List Excitation} → Choice pattern frame → Covered pattern (found .state .cases)

@@ -1,5 +1,5 @@
 -- The best-first search (document 01, "Search"), over any simulation of a pattern, any bound of a case and any choice of the input to
--- split. The search rests on the envelope's promise and on nothing inside it, so neither is known here.
+-- split. The search rests on the envelope's promise and on nothing inside it, so none of these is known here.
 use Prim.Native.Nat.{ℕ, zero, suc, _*_, min}
 use mathlib.Core.Bool.{cond}
 use mathlib.Core.List.{List, [], _∷_, _++_, map}
@@ -95,7 +95,7 @@ module _ (simulated : List Excitation → ℕ) (bound choose : Case → ℕ) whe
   unfoldable pub nextChildren : List StoredCase → List Case
   nextChildren cases = let parent = setsAt cases (nextSplit cases) in children (choose parent) parent
 
-  -- One split.
+  -- One split. The parent is a case whose upper number is U, so U is the cap of its children.
   unfoldable pub split : State → State
   split state =
       let cases = state .cases in

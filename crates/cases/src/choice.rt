@@ -73,9 +73,9 @@ fn rank_of(code: u8, cone: u16) -> u32
 }
 
 // The input of a case to split.
-pub fn choose(codes: &[u8], inputs: usize, cones: &[u16]) -> usize
+pub fn choose(codes: &[u8], inputs: usize, cones: &[u16]) -> Net
     requires { ⌜ (1 ≤ inputs) × (inputs ≤ length (now codes)) × (inputs ≤ length (now cones)) ⌝ }
-    ensures { λ r. ⌜ (r ≡ chosenInput (now (cones .entry)) (setsIn inputs (now (codes .entry)))) × (r < inputs) ⌝ }
+    ensures { λ r. ⌜ (r .0 ≡ chosenInput (now (cones .entry)) (setsIn inputs (now (codes .entry)))) × (r .0 < inputs) ⌝ }
 {
     let mut best: usize = 0;
     let mut most = rank_of(codes[0], cones[0]);
@@ -88,5 +88,5 @@ pub fn choose(codes: &[u8], inputs: usize, cones: &[u16]) -> usize
         }
         net += 1;
     }
-    best
+    Net(best)
 }

@@ -92,7 +92,7 @@ fn print_pattern(pattern: &[u8]) {
     print_end();
 }
 
-// The pattern's line, of as many bytes as the file has inputs.
+// The pattern's line, of as many bytes as the file has inputs. Search has accepted the file, so there are counts, and at most 64 inputs.
 fn print_inputs(file: &[u8], pattern: &[u8]) {
     match block::read(file) {
         ReadAnswer::Refused(r) => print_refusal(r.number, r.place),

@@ -15,7 +15,6 @@ use Rattle.search.specs.Search.{limitChecks, bufferChecks}
 -- What an accepted hop limit, ratio and budget are.
 pub record Limits (hops ratio budget : ℕ) : Type 0 where
   pub some-hops : 1 ≤ hops
-  pub few-hops : hops ≤ 16
   pub ratio-high : ratio ≤ 10000
   pub budget-high : budget ≤ 10000
 
@@ -28,7 +27,6 @@ limits-right hops table ratio budget e =
     let d = passed 14 0 _ _ (c .1) in
     record {
       some-hops = leb-true _ _ (and-left (leb 1 hops) (leb hops 16) (a .0));
-      few-hops = leb-true _ _ (and-right (leb 1 hops) (leb hops 16) (a .0));
       ratio-high = leb-true _ _ (and-right (leb 1000 ratio) (leb ratio 10000) (c .0));
       budget-high = leb-true _ _ (d .0);
     }

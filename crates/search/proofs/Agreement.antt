@@ -14,7 +14,6 @@ use Rattle.block.specs.Block.{frame, inputCount, quietTick, Choice}
 use Rattle.block.specs.Record.{File, netCount}
 use Rattle.block.specs.Refusals.{readChecks, readOf}
 use Rattle.block.specs.Verdict.{verdict}
-use Rattle.block.specs.declared.ReadAnswer.the-variants as read-answer
 use Rattle.block.specs.declared.Verdict.{Verdict}
 use Rattle.block.specs.declared.Verdict.the-variants as verdict-is
 use Rattle.block.proofs.Accepted.{accepted}
@@ -32,7 +31,6 @@ use Rattle.cases.specs.Promise.{Right}
 use Rattle.cases.specs.Search.{Found, greatestUpper, outcomeOf}
 use Rattle.cases.specs.Store.{patternWith}
 use Rattle.cases.specs.declared.Outcome.{Outcome}
-use Rattle.cases.specs.declared.Outcome.the-variants as outcome
 use Rattle.cases.proofs.Chosen.{chosen-undecided}
 use Rattle.cases.proofs.Outcomes.{is-exact, is-within, is-spent, Says, says}
 use Rattle.cases.proofs.Right.{search-right, sheet-above}
@@ -51,13 +49,13 @@ flowing-accepted verdict-is.Accepted drop quiet d q e = (refl, cc)
 flowing-accepted (verdict-is.Refused r) drop quiet d q e = absurd (let z : _≡_ {A = ℕ} 0 1 = cc in omega arith)
 
 -- What an accepted simulation is.
-record Accepted (file : File) (table bytes : List ℕ) (drop : ℕ) (simulated : List ℕ) : Type 0 where
+record AcceptedSimulation (file : File) (table bytes : List ℕ) (drop : ℕ) (simulated : List ℕ) : Type 0 where
   pub choice : Choice (patternOf (inputCount file) bytes) (frame file)
   pub drop-is : drop ≡ dropOf table (patternSheet file bytes)
   pub sheet-is : simulated ≡ sheetWords (patternSheet file bytes)
 
 simulation-accepted : (file : File) (table given bytes work : List ℕ) (drop quiet : ℕ) (simulated work′ : List ℕ)
-    → Simulated file table given bytes work (currents.Flowing drop quiet) simulated work′ → Accepted file table bytes drop simulated
+    → Simulated file table given bytes work (currents.Flowing drop quiet) simulated work′ → AcceptedSimulation file table bytes drop simulated
 unfolding simulateVerdict
 simulation-accepted file table given bytes work drop quiet simulated work′ s =
     let v = flowing-accepted (simulateVerdict file table given bytes work) _ (quietTick file) drop quiet (s .answered) in
@@ -70,7 +68,7 @@ simulation-accepted file table given bytes work drop quiet simulated work′ s =
     }
 
 -- What an accepted search is.
-record Ended (file : File) (hops : ℕ) (table : List ℕ) (ratio budget : ℕ) (given : List ℕ)
+record AcceptedSearch (file : File) (hops : ℕ) (table : List ℕ) (ratio budget : ℕ) (given : List ℕ)
     (o : Outcome) (upper lower splits : ℕ) (sheet pattern : List ℕ) : Type 0 where
   pub file-accepted : AcceptedFile file (netCount file) (inputCount file)
   pub read-passed : verdict (readChecks file) ≡ verdict-is.Accepted
@@ -97,7 +95,7 @@ read-accepted file e = accepted file (netCount file) (inputCount file) (rw e ref
 search-accepted : (file : File) (hops : ℕ) (table : List ℕ) (ratio budget : ℕ) (sheet pattern work store : List ℕ)
     (o : Outcome) (upper lower splits cases : ℕ) (sheet′ pattern′ work′ store′ : List ℕ)
     → Searched file hops table ratio budget sheet pattern work store (answer.Found o upper lower splits cases) sheet′ pattern′ work′ store′
-    → Ended file hops table ratio budget pattern o upper lower splits sheet′ pattern′
+    → AcceptedSearch file hops table ratio budget pattern o upper lower splits sheet′ pattern′
 unfolding searchVerdict bufferChecks
 search-accepted file hops table ratio budget sheet pattern work store o upper lower splits cases sheet′ pattern′ work′ store′ s =
     let v = searchVerdict file hops table ratio budget sheet pattern work store in
@@ -120,7 +118,7 @@ search-accepted file hops table ratio budget sheet pattern work store o upper lo
     }
 
 module _ (file : File) (hops : ℕ) (table : List ℕ) (ratio budget : ℕ) (given : List ℕ)
-    (o : Outcome) (upper lower splits : ℕ) (sheet pattern : List ℕ) (ended : Ended file hops table ratio budget given o upper lower splits sheet pattern) where
+    (o : Outcome) (upper lower splits : ℕ) (sheet pattern : List ℕ) (ended : AcceptedSearch file hops table ratio budget given o upper lower splits sheet pattern) where
   abbrev found : Found
   found = searchOf file hops table ratio budget
 
@@ -139,7 +137,7 @@ module _ (file : File) (hops : ℕ) (table : List ℕ) (ratio budget : ℕ) (giv
   says-of : Says ratio upper lower o
   says-of = subst (Says ratio upper lower) (sym said-is) (says ratio upper lower)
 
-  module _ (bytes : List ℕ) (drop : ℕ) (simulated : List ℕ) (run : Accepted file table bytes drop simulated) where
+  module _ (bytes : List ℕ) (drop : ℕ) (simulated : List ℕ) (run : AcceptedSimulation file table bytes drop simulated) where
     sheet-above-run : (i : ℕ) → getD simulated i 0 ≤ getD sheet i 0
     sheet-above-run i =
         let cover = right .covered (run .choice) in

@@ -1,4 +1,4 @@
--- Laws of the frame of an accepted file: none of its sets is empty, and the bytes of one of its patterns pass check 16.
+-- Laws of the frame of an accepted file: none of its sets is empty, and the bytes of each of its patterns pass check 16.
 -- Assumes nothing.
 use Prim.Native.Nat.{ℕ, zero, suc, _+_, _≤_, _<_}
 use mathlib.Core.Bool.{true}

@@ -15,7 +15,8 @@ use Rattle.simulator.specs.Simulate.{Simulated}
 use Rattle.search.specs.Search.{Searched}
 use Rattle.search.specs.declared.SearchAnswer.the-variants.{Found}
 
--- What a search that was accepted gives: its outcome, U, L and splits, and its sheet and pattern buffers at return.
+-- What a search that was accepted gives: its outcome, U, L and splits, and its sheet and pattern buffers at return. Of a run of Simulate,
+-- `given` is the sheet as it was lent, `bytes` the pattern buffer, `simulated` the sheet at return.
 pub record Agrees (file : File) (table : List ℕ) (ratio budget : ℕ) (outcome : Outcome) (upper lower splits : ℕ) (sheet pattern : List ℕ) : Type 0 where
   -- Whichever pattern Simulate accepts, no word of its sheet is above the search's, and its drop is not above U.
   pub draws-no-more : (given bytes work : List ℕ) (drop quiet : ℕ) (simulated work′ : List ℕ)

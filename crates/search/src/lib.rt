@@ -31,7 +31,7 @@ struct Step {
     goal: u64,
 }
 
-// How a search ended: U, L, how many cases were split and how many there are.
+// How a search ended: its outcome, U, L, how many cases were split and how many there are.
 struct Ended {
     outcome: Outcome,
     upper: u64,

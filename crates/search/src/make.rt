@@ -69,7 +69,7 @@ fn own_upper(
     currents.drop
 }
 
-fn least(a: u64, b: u64) -> u64
+fn lesser(a: u64, b: u64) -> u64
     ensures { λ r. ⌜ r ≡ min a b ⌝ }
 {
     if a < b { a } else { b }
@@ -96,7 +96,7 @@ pub fn make_case(
     let mut probe = [0u8; 64];
     let drop = probe_drop(file, setting, table, codes, &mut probe, sheet, work);
     let own = own_upper(file, setting, table, codes, drop, sheet, work);
-    store::write_case(store, at, codes, least(cap, own));
+    store::write_case(store, at, codes, lesser(cap, own));
     if drop < goal {
         return goal;
     }

@@ -7,6 +7,7 @@ ghost use Rattle.search.specs.Steps.{Ready, ChildMade, Running, Cones, N
 use super::Setting;
 use super::Step;
 use super::make;
+use block::Net;
 use cases::CaseNumber;
 use cases::choice;
 use cases::store;
@@ -18,7 +19,7 @@ fn make_child(
     setting: Setting,
     table: &[u16],
     parent: &[u8],
-    input: usize,
+    input: Net,
     e: u8,
     cap: u64,
     step: Step,
@@ -27,19 +28,18 @@ fn make_child(
     work: &mut [u8],
     store: &mut [u8],
 ) -> Step
-    requires { ⌜ Ready (now file) (setting .nets) (setting .inputs) (setting .hops) (now sheet) (now work) × (length (now parent) ≡ 64) × SetCodes (setting .inputs) (now parent) × (input < setting .inputs) × (e < 4) × (length (now pattern) ≡ 64) × HasCase (now store) (step .next) × (step .cases ≤ 30001) ⌝ }
-    ensures { λ r. ⌜ ChildMade (now (file .entry)) (setting .inputs) (setting .hops) (now (table .entry)) (now (parent .entry)) input e cap step (now (store .entry)) (now (pattern .entry)) r (now (store .exit)) (now (pattern .exit)) ⌝ }
+    requires { ⌜ Ready (now file) (setting .nets) (setting .inputs) (setting .hops) (now sheet) (now work) × (length (now parent) ≡ 64) × SetCodes (setting .inputs) (now parent) × (input .0 < setting .inputs) × (e < 4) × (length (now pattern) ≡ 64) × HasCase (now store) (step .next) × (step .cases ≤ 30001) ⌝ }
+    ensures { λ r. ⌜ ChildMade (now (file .entry)) (setting .inputs) (setting .hops) (now (table .entry)) (now (parent .entry)) (input .0) e cap step (now (store .entry)) (now (pattern .entry)) r (now (store .exit)) (now (pattern .exit)) ⌝ }
 {
     let excitation = excitation::excitation_of(e);
-    let set = Set {
-        code: parent[input],
-    };
+    let net = input.0;
+    let set = Set { code: parent[net] };
     if !set.contains(excitation) {
         return step;
     }
     let mut codes = [0u8; 64];
     store::copy(parent, 0, &mut codes, 0, 64);
-    codes[input] = excitation::single(excitation).code;
+    codes[net] = excitation::single(excitation).code;
     let next = step.next;
     let goal = make::make_case(
         file,

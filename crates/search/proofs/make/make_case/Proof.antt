@@ -20,8 +20,8 @@ own-upper-requires c κs =
     let drop = probed .probe-drop .ensures in
     (ready-kept (s .pre .0) (kept .0) (kept .1 .0), s .pre .1, s .pre .2, drop .is, drop .low)
 
-least-requires : tie.Need-least-requires
-least-requires c κs = search needs
+lesser-requires : tie.Need-lesser-requires
+lesser-requires c κs = search needs
 
 write-case-requires : tie.Need-write-case-requires
 write-case-requires c κs = search needs
@@ -40,7 +40,7 @@ returns c =
     let written = c .before .before .before in
     let bounded = written .before .before .before .before .before .before .before in
     let probed = bounded .before .before .before .before .before .before .before .before in
-    made-below _ _ _ _ _ _ _ _ _ _ (probed .probe-drop .ensures) (bounded .own-upper .ensures) (written .before .least .ensures) (written .write-case .ensures) (c .if1 .taken)
+    made-below _ _ _ _ _ _ _ _ _ _ (probed .probe-drop .ensures) (bounded .own-upper .ensures) (written .before .lesser .ensures) (written .write-case .ensures) (c .if1 .taken)
 
 slice-aggregate-copy : tie.Need-slice-aggregate-copy
 slice-aggregate-copy c = search needs
@@ -72,7 +72,7 @@ returns-2 c =
     let written = tested .before .before .before in
     let bounded = written .before .before .before .before .before .before .before in
     let probed = bounded .before .before .before .before .before .before .before .before in
-    made-best _ _ _ _ _ _ _ _ _ _ (probed .probe-drop .ensures) (bounded .own-upper .ensures) (written .before .least .ensures) (written .write-case .ensures) (tested .if1 .left) (c .before .before .copy .ensures)
+    made-best _ _ _ _ _ _ _ _ _ _ (probed .probe-drop .ensures) (bounded .own-upper .ensures) (written .before .lesser .ensures) (written .write-case .ensures) (tested .if1 .left) (c .before .before .copy .ensures)
 
 pub make-case-spec : {M : Type 1} → statement M
 make-case-spec =
@@ -81,7 +81,7 @@ make-case-spec =
     slice-aggregate-probe-drop
     probe-drop-requires
     own-upper-requires
-    least-requires
+    lesser-requires
     write-case-requires
     same-length
     same-length-2

@@ -12,8 +12,8 @@ use Rattle.search.proofs.split.make_child.Tie as tie
 excitation-of-requires : tie.Need-excitation-of-requires
 excitation-of-requires c κs = search needs
 
-shared-slice-read-t20 : tie.Need-shared-slice-read-t20
-shared-slice-read-t20 c = search needs
+shared-slice-read-t21 : tie.Need-shared-slice-read-t21
+shared-slice-read-t21 c = search needs
 
 contains-requires : tie.Need-contains-requires
 contains-requires c κs = search needs
@@ -40,12 +40,12 @@ make-case-requires : tie.Need-make-case-requires
 make-case-requires c κs =
     let s = c .before .before .before .before .before .before .before .before .before .before .before .before .before .before .before .before .before .before .before .before in
     let copied = c .before .before .before .before .before .before .before .copy .ensures in
-    let codes = child-codes (s .args .parent .now) (s .args .input) (s .args .e) (s .pre .1) (length-replicate {A = ℕ} 64 0) copied
+    let codes = child-codes (s .args .parent .now) (s .args .input .0) (s .args .e) (s .pre .1) (length-replicate {A = ℕ} 64 0) copied
     (c .before .before .before .before .before .before .before .before .before .before .before .before .excitation-of .ensures) (c .before .before .before .before .before .single .ensures) in (
       s .pre .0,
-      ap length codes ∙ length-set (s .args .parent .now) (s .args .input) _ ∙ s .pre .1,
+      ap length codes ∙ length-set (s .args .parent .now) (s .args .input .0) _ ∙ s .pre .1,
       rw codes
-          (child-coded (s .args .setting .inputs) (s .pre .0 .accepted .few-inputs) (s .args .parent .now) (s .pre .1) (s .args .input) (s .pre .3)
+          (child-coded (s .args .setting .inputs) (s .pre .0 .accepted .few-inputs) (s .args .parent .now) (s .pre .1) (s .args .input .0) (s .pre .3)
           (s .args .e) (s .pre .2)),
       s .pre .5,
       s .pre .6,
@@ -74,7 +74,7 @@ returns-2 c =
     let s = c .before .before .before .before .before .before .before .before .before .before .before .before .before .before .before .before .before .before .before .before .before .before .before .before .before .before .before .before .before .before in
     let is = c .before .before .before .before .before .before .before .before .before .before .before .before .before .before .before .before .before .before .before .before .before .before .excitation-of .ensures in
     child-made is (c .before .before .before .before .before .before .before .before .before .before .before .before .before .before .before .before .before .before .before .before .contains .ensures) (c .before .before .before .before .before .before .before .before .before .before .before .before .before .before .before .before .before .before .before .if1 .left)
-    (child-codes (s .args .parent .now) (s .args .input) (s .args .e) (s .pre .1) (length-replicate {A = ℕ} 64 0) (c .before .before .before .before .before .before .before .before .before .before .before .before .before .before .before .before .before .copy .ensures)
+    (child-codes (s .args .parent .now) (s .args .input .0) (s .args .e) (s .pre .1) (length-replicate {A = ℕ} 64 0) (c .before .before .before .before .before .before .before .before .before .before .before .before .before .before .before .before .before .copy .ensures)
     is (c .before .before .before .before .before .before .before .before .before .before .before .before .before .before .before .single .ensures))
     (c .before .before .before .before .before .before .before .before .before .make-case .ensures) (c .greater .ensures)
 
@@ -83,7 +83,7 @@ make-child-spec =
     tie.close
     (tie.spec
     excitation-of-requires
-    shared-slice-read-t20
+    shared-slice-read-t21
     contains-requires
     returns
     slice-aggregate-copy

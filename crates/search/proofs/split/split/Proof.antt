@@ -13,7 +13,7 @@ use Rattle.search.proofs.split.split.Tie as tie
 abbrev Inv-loop : tie.InvT-loop
 Inv-loop file setting table cones cap n goal sheet₀ pattern₀ work₀ store₀ parent input cases₀ next₀ best₀ e₀ sheet pattern work store cases next best e =
     (e ≤ 4) × (length sheet ≡ length sheet₀) × (length work ≡ length work₀)
-    × Splitting file (setting .inputs) (setting .hops) table parent input next₀ cap n goal store₀ pattern₀ e cases next best store pattern
+    × Splitting file (setting .inputs) (setting .hops) table parent (input .0) next₀ cap n goal store₀ pattern₀ e cases next best store pattern
 
 abbrev μ-loop : tie.MeasureT-loop
 μ-loop file setting table cones cap n goal sheet₀ pattern₀ work₀ store₀ parent input cases₀ next₀ best₀ e₀ sheet pattern work store cases next best e =
