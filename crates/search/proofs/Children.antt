@@ -95,9 +95,9 @@ child-skipped {parent} {input} {e} is tested h =
 pub child-made : {file : File} {inputs hops : ℕ} {table parent : List ℕ} {input e cap : ℕ} {step : Step} {store pattern : List ℕ}
     {x : Excitation} {allowed : Bool} {codes : List ℕ} {cases goal : ℕ} {store′ pattern′ : List ℕ}
     → x ≡ excitationOf e → allowed ≡ member x (decode (getD parent input 0)) → not allowed ≡ false
-    → codes ≡ childCodes parent input e → Made file inputs hops table codes cap (step .goal) (step .next) store pattern goal store′ pattern′
-    → cases ≡ max (step .next + 1) (step .cases)
-    → ChildMade file inputs hops table parent input e cap step store pattern (record { cases = cases; next = cases; goal = goal }) store′ pattern′
+    → codes ≡ childCodes parent input e → Made file inputs hops table codes cap (step .goal) (step .next .0) store pattern goal store′ pattern′
+    → cases ≡ max (step .next .0 + 1) (step .cases)
+    → ChildMade file inputs hops table parent input e cap step store pattern (record { cases = cases; next = record { 0 = cases }; goal = goal }) store′ pattern′
 child-made {parent} {input} {e} is tested h coded made count =
     let yes = confirmed (allowed-is parent input e is tested) h in
     record {

@@ -115,8 +115,8 @@ module _ {file : File} {inputs hops : ℕ} {table parent : List ℕ} {input k ca
         }
 
     pub splitting-next : {after : Step} {store″ pattern″ : List ℕ}
-        → ChildMade file inputs hops table parent input e cap (record { cases = count; next = next; goal = goal′ }) store′ pattern′ after store″ pattern″
-        → Splitting file inputs hops table parent input k cap n goal store pattern (e + 1) (after .cases) (after .next) (after .goal) store″ pattern″
+        → ChildMade file inputs hops table parent input e cap (record { cases = count; next = record { 0 = next }; goal = goal′ }) store′ pattern′ after store″ pattern″
+        → Splitting file inputs hops table parent input k cap n goal store pattern (e + 1) (after .cases) (after .next .0) (after .goal) store″ pattern″
     splitting-next child =
         cases (member (excitationOf e) (decode (getD parent input 0)))
         (λ t. let q = child .counted t in rw (q .1, q .0) (added t (child .made t)))

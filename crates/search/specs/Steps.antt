@@ -83,9 +83,9 @@ pub record ChildMade (file : File) (inputs hops : ℕ) (table parent : List ℕ)
     (step′ : Step) (store′ pattern′ : List ℕ) : Type 0 where
   pub skipped : member (excitationOf e) (decode (getD parent input 0)) ≡ false → (step′ ≡ step) × (store′ ≡ store) × (pattern′ ≡ pattern)
   pub made : member (excitationOf e) (decode (getD parent input 0)) ≡ true
-      → Made file inputs hops table (childCodes parent input e) cap (step .goal) (step .next) store pattern (step′ .goal) store′ pattern′
+      → Made file inputs hops table (childCodes parent input e) cap (step .goal) (step .next .0) store pattern (step′ .goal) store′ pattern′
   pub counted : member (excitationOf e) (decode (getD parent input 0)) ≡ true
-      → (step′ .cases ≡ max (step .next + 1) (step .cases)) × (step′ .next ≡ step′ .cases)
+      → (step′ .cases ≡ max (step .next .0 + 1) (step .cases)) × (step′ .next .0 ≡ step′ .cases)
 
 -- The cones of the inputs.
 abbrev pub Cones : File → ℕ → List ℕ → Type 0

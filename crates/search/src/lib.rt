@@ -27,7 +27,7 @@ struct Setting {
 // Where a split stands: how many cases there are, the place of the next child, and the drop that makes a probe the best.
 struct Step {
     cases: usize,
-    next: usize,
+    next: CaseNumber,
     goal: u64,
 }
 

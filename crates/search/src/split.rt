@@ -28,7 +28,7 @@ fn make_child(
     work: &mut [u8],
     store: &mut [u8],
 ) -> Step
-    requires { ⌜ Ready (now file) (setting .nets) (setting .inputs) (setting .hops) (now sheet) (now work) × (length (now parent) ≡ 64) × SetCodes (setting .inputs) (now parent) × (input .0 < setting .inputs) × (e < 4) × (length (now pattern) ≡ 64) × HasCase (now store) (step .next) × (step .cases ≤ 30001) ⌝ }
+    requires { ⌜ Ready (now file) (setting .nets) (setting .inputs) (setting .hops) (now sheet) (now work) × (length (now parent) ≡ 64) × SetCodes (setting .inputs) (now parent) × (input .0 < setting .inputs) × (e < 4) × (length (now pattern) ≡ 64) × HasCase (now store) (step .next .0) × (step .cases ≤ 30001) ⌝ }
     ensures { λ r. ⌜ ChildMade (now (file .entry)) (setting .inputs) (setting .hops) (now (table .entry)) (now (parent .entry)) (input .0) e cap step (now (store .entry)) (now (pattern .entry)) r (now (store .exit)) (now (pattern .exit)) ⌝ }
 {
     let excitation = excitation::excitation_of(e);
@@ -48,16 +48,16 @@ fn make_child(
         &codes,
         cap,
         step.goal,
-        CaseNumber(next),
+        next,
         sheet,
         pattern,
         work,
         store,
     );
-    let cases = block::greater(next + 1, step.cases);
+    let cases = block::greater(next.0 + 1, step.cases);
     Step {
         cases,
-        next: cases,
+        next: CaseNumber(cases),
         goal,
     }
 }
@@ -98,7 +98,7 @@ pub fn split(
             cap,
             Step {
                 cases,
-                next,
+                next: CaseNumber(next),
                 goal: best,
             },
             sheet,
@@ -107,13 +107,13 @@ pub fn split(
             store,
         );
         cases = step.cases;
-        next = step.next;
+        next = step.next.0;
         best = step.goal;
         e += 1;
     }
     Step {
         cases,
-        next,
+        next: CaseNumber(next),
         goal: best,
     }
 }

@@ -38,10 +38,10 @@ slice-aggregate-make-case c = search needs
 
 make-case-requires : tie.Need-make-case-requires
 make-case-requires c κs =
-    let s = c .before .before .before .before .before .before .before .before .before .before .before .before .before .before .before .before .before .before .before .before in
-    let copied = c .before .before .before .before .before .before .before .copy .ensures in
+    let s = c .before .before .before .before .before .before .before .before .before .before .before .before .before .before .before .before .before .before .before .before .before in
+    let copied = c .before .before .before .before .before .before .before .before .copy .ensures in
     let codes = child-codes (s .args .parent .now) (s .args .input .0) (s .args .e) (s .pre .1) (length-replicate {A = ℕ} 64 0) copied
-    (c .before .before .before .before .before .before .before .before .before .before .before .before .excitation-of .ensures) (c .before .before .before .before .before .single .ensures) in (
+    (c .before .before .before .before .before .before .before .before .before .before .before .before .before .excitation-of .ensures) (c .before .before .before .before .before .before .single .ensures) in (
       s .pre .0,
       ap length codes ∙ length-set (s .args .parent .now) (s .args .input .0) _ ∙ s .pre .1,
       rw codes
@@ -52,7 +52,7 @@ make-case-requires c κs =
     )
 
 add-greater : tie.Need-add-greater
-add-greater c = omega (arith, c .before .before .before .before .before .before .before .before .before .before .before .before .before .before .before .before .before .before .before .before .before .before .before .before .before .before .before .before .before .pre .6 .numbered)
+add-greater c = omega (arith, c .before .before .before .before .before .before .before .before .before .before .before .before .before .before .before .before .before .before .before .before .before .before .before .before .before .before .before .before .before .before .before .pre .6 .numbered)
 
 greater-requires : tie.Need-greater-requires
 greater-requires c κs = search needs
@@ -71,12 +71,12 @@ same-length-4 c = search needs
 
 returns-2 : tie.Need-returns-2
 returns-2 c =
-    let s = c .before .before .before .before .before .before .before .before .before .before .before .before .before .before .before .before .before .before .before .before .before .before .before .before .before .before .before .before .before .before in
-    let is = c .before .before .before .before .before .before .before .before .before .before .before .before .before .before .before .before .before .before .before .before .before .before .excitation-of .ensures in
-    child-made is (c .before .before .before .before .before .before .before .before .before .before .before .before .before .before .before .before .before .before .before .before .contains .ensures) (c .before .before .before .before .before .before .before .before .before .before .before .before .before .before .before .before .before .before .before .if1 .left)
-    (child-codes (s .args .parent .now) (s .args .input .0) (s .args .e) (s .pre .1) (length-replicate {A = ℕ} 64 0) (c .before .before .before .before .before .before .before .before .before .before .before .before .before .before .before .before .before .copy .ensures)
-    is (c .before .before .before .before .before .before .before .before .before .before .before .before .before .before .before .single .ensures))
-    (c .before .before .before .before .before .before .before .before .before .make-case .ensures) (c .greater .ensures)
+    let s = c .before .before .before .before .before .before .before .before .before .before .before .before .before .before .before .before .before .before .before .before .before .before .before .before .before .before .before .before .before .before .before .before in
+    let is = c .before .before .before .before .before .before .before .before .before .before .before .before .before .before .before .before .before .before .before .before .before .before .before .before .excitation-of .ensures in
+    child-made is (c .before .before .before .before .before .before .before .before .before .before .before .before .before .before .before .before .before .before .before .before .before .before .contains .ensures) (c .before .before .before .before .before .before .before .before .before .before .before .before .before .before .before .before .before .before .before .before .before .if1 .left)
+    (child-codes (s .args .parent .now) (s .args .input .0) (s .args .e) (s .pre .1) (length-replicate {A = ℕ} 64 0) (c .before .before .before .before .before .before .before .before .before .before .before .before .before .before .before .before .before .before .before .copy .ensures)
+    is (c .before .before .before .before .before .before .before .before .before .before .before .before .before .before .before .before .before .single .ensures))
+    (c .before .before .before .before .before .before .before .before .before .before .make-case .ensures) (c .greater .ensures)
 
 pub make-child-spec : {M : Type 1} → statement M
 make-child-spec =
