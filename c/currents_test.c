@@ -1,11 +1,7 @@
 /* Envelope and Simulate through the C header: block F of document 01, and a refusal of each. */
-#include <inttypes.h>
-#include <stdio.h>
-#include <string.h>
+#include "check.h"
 
-#include "zimgurav.h"
-
-enum { NUMBERS = 6, RECORD = 20, NETS = 4, CONTACTS = 16, TICKS = 512, WORDS = CONTACTS * TICKS, PATTERN = 64 };
+enum { NETS = 4 };
 
 /* Net 2 is NOT of net 0 at contact 0, net 3 NAND of nets 1 and 2 at contact 1. */
 static const uint8_t block_f[NETS * RECORD] = {
@@ -32,20 +28,6 @@ static void prepare(void)
 {
     memset(&untouched, 0xEE, sizeof untouched);
     lent = untouched;
-}
-
-/* Returns how many of the six numbers are not as expected. */
-static int check_answer(const char *name, const uint64_t expected[NUMBERS])
-{
-    int wrong = 0;
-
-    for (int i = 0; i < NUMBERS; i++) {
-        if (lent.answer[i] != expected[i]) {
-            fprintf(stderr, "%s: answer[%d] is %" PRIu64 ", not %" PRIu64 "\n", name, i, lent.answer[i], expected[i]);
-            wrong++;
-        }
-    }
-    return wrong;
 }
 
 /* Returns how many words of the sheet are not as expected: the first 8 ticks of contacts 0 and 1, and 0 elsewhere. */
@@ -104,20 +86,20 @@ int main(void)
     int wrong = 0;
 
     envelope(10);
-    wrong += check_answer("envelope", currents);
+    wrong += check_numbers("envelope", lent.answer, currents);
     wrong += check_sheet("envelope", ceiling);
 
     envelope(17);
-    wrong += check_answer("envelope, 17 hops", hop_limit);
+    wrong += check_numbers("envelope, 17 hops", lent.answer, hop_limit);
     wrong += check_untouched("envelope, 17 hops");
 
     simulate(pattern);
-    wrong += check_answer("simulate, both lh", currents);
+    wrong += check_numbers("simulate, both lh", lent.answer, currents);
     wrong += check_sheet("simulate, both lh", both_rise);
 
     pattern[1] = 4;
     simulate(pattern);
-    wrong += check_answer("simulate, byte 4", pattern_byte);
+    wrong += check_numbers("simulate, byte 4", lent.answer, pattern_byte);
     wrong += check_untouched("simulate, byte 4");
     return wrong != 0;
 }

@@ -1,33 +1,14 @@
 /* Read through the C header: block S of document 01, two refused blocks and the empty file. */
-#include <inttypes.h>
-#include <stdio.h>
-#include <string.h>
+#include "check.h"
 
-#include "zimgurav.h"
-
-enum { NUMBERS = 6, RECORD = 20 };
-
-static const uint8_t block_s[3 * RECORD] = {
-    1, 0, 0, 0, 0, 0, 0, 0, 0, 0, 0, 0, 0, 0, 0,  0, 0, 0, 15, 0,
-    9, 0, 1, 1, 0, 0, 0, 0, 0, 0, 0, 0, 1, 1, 10, 0, 0, 0, 0,  0,
-    8, 0, 1, 1, 0, 0, 0, 0, 0, 0, 0, 0, 1, 1, 10, 0, 0, 0, 0,  0,
-};
-
-/* Returns how many of the six numbers are not as expected. */
+/* Reads a file. Returns how many of the six numbers are not as expected. */
 static int check(const char *name, const uint8_t *file, size_t length, const uint64_t expected[NUMBERS])
 {
     uint64_t answer[NUMBERS];
-    int wrong = 0;
 
     memset(answer, 0xEE, sizeof answer);
     zimgurav_read(file, length, answer);
-    for (int i = 0; i < NUMBERS; i++) {
-        if (answer[i] != expected[i]) {
-            fprintf(stderr, "%s: answer[%d] is %" PRIu64 ", not %" PRIu64 "\n", name, i, answer[i], expected[i]);
-            wrong++;
-        }
-    }
-    return wrong;
+    return check_numbers(name, answer, expected);
 }
 
 int main(void)

@@ -1,19 +1,7 @@
 /* Search through the C header: block S of document 01 with each outcome, and a refusal. */
-#include <inttypes.h>
-#include <stdio.h>
-#include <string.h>
+#include "check.h"
 
-#include "zimgurav.h"
-
-enum { NUMBERS = 6, RECORD = 20, NETS = 3, CONTACTS = 16, TICKS = 512, WORDS = CONTACTS * TICKS, PATTERN = 64 };
-enum { BUDGET = 200, CASE = 72, UPPER = 64, CASES = 1 + 3 * BUDGET };
-
-/* Nets 1 and 2 are BUF and NOT of net 0. Each draws current only where it rises, so only one of them does. */
-static const uint8_t block_s[NETS * RECORD] = {
-    1, 0, 0, 0, 0, 0, 0, 0, 0, 0, 0, 0, 0, 0, 0,  0, 0, 0, 15, 0,
-    9, 0, 1, 1, 0, 0, 0, 0, 0, 0, 0, 0, 1, 1, 10, 0, 0, 0, 0,  0,
-    8, 0, 1, 1, 0, 0, 0, 0, 0, 0, 0, 0, 1, 1, 10, 0, 0, 0, 0,  0,
-};
+enum { NETS = 3, BUDGET = 200, CASE = 72, UPPER = 64, CASES = 1 + 3 * BUDGET };
 
 /* One bus node, with a resistance to contact 0. */
 static const uint16_t table[CONTACTS] = {1};
@@ -36,20 +24,6 @@ static void search(uint64_t ratio, uint64_t budget)
     lent = untouched;
     zimgurav_search(block_s, sizeof block_s, 10, table, CONTACTS, ratio, budget, lent.sheet, WORDS, lent.pattern,
                     PATTERN, lent.work, sizeof lent.work, lent.store, sizeof lent.store, lent.answer);
-}
-
-/* Returns how many of the six numbers are not as expected. */
-static int check_answer(const char *name, const uint64_t expected[NUMBERS])
-{
-    int wrong = 0;
-
-    for (int i = 0; i < NUMBERS; i++) {
-        if (lent.answer[i] != expected[i]) {
-            fprintf(stderr, "%s: answer[%d] is %" PRIu64 ", not %" PRIu64 "\n", name, i, lent.answer[i], expected[i]);
-            wrong++;
-        }
-    }
-    return wrong;
 }
 
 /* Returns how many words of the sheet are not as expected: `current` at contact 0, tick 1, and 0 elsewhere. */
@@ -123,25 +97,25 @@ int main(void)
     int wrong = 0;
 
     search(1000, BUDGET);
-    wrong += check_answer("budget 200", exact);
+    wrong += check_numbers("budget 200", lent.answer, exact);
     wrong += check_sheet("budget 200", 10);
     wrong += check_pattern("budget 200");
     wrong += check_store("budget 200", l_h_hl_lh, 4);
 
     search(2000, 0);
-    wrong += check_answer("ratio 2,000", within);
+    wrong += check_numbers("ratio 2,000", lent.answer, within);
     wrong += check_sheet("ratio 2,000", 20);
     wrong += check_pattern("ratio 2,000");
     wrong += check_store("ratio 2,000", whole_frame, 1);
 
     search(1999, 0);
-    wrong += check_answer("ratio 1,999", spent);
+    wrong += check_numbers("ratio 1,999", lent.answer, spent);
     wrong += check_sheet("ratio 1,999", 20);
     wrong += check_pattern("ratio 1,999");
     wrong += check_store("ratio 1,999", whole_frame, 1);
 
     search(1000, 10001);
-    wrong += check_answer("budget 10,001", budget);
+    wrong += check_numbers("budget 10,001", lent.answer, budget);
     wrong += check_untouched("budget 10,001");
     return wrong != 0;
 }

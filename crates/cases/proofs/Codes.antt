@@ -24,7 +24,7 @@ digit-of (suc zero) h = refl
 digit-of (suc (suc n)) h = absurd (omega arith)
 
 -- How many members a coded set has: how many of its low four bits are 1.
-pub size-code : (n : ℕ) → size (decode n) ≡ n % 2 + n / 2 % 2 + n / 4 % 2 + n / 8 % 2
+size-code : (n : ℕ) → size (decode n) ≡ n % 2 + n / 2 % 2 + n / 4 % 2 + n / 8 % 2
 unfolding size decode
 size-code n =
     rw (

@@ -68,7 +68,7 @@ pub shifted-next : (number j : ℕ) {left : ℕ} → left ≡ shifted number j �
 shifted-next number j e = ap (λ n. n / 256) e ∙ sym (shifted-more number j) ∙ ap (shifted number) (sym (add-one j))
 
 -- Byte j of a number.
-pub byte-at : (n number j : ℕ) → j < n → getD (numberBytes n number) j 0 ≡ shifted number j % 256
+byte-at : (n number j : ℕ) → j < n → getD (numberBytes n number) j 0 ≡ shifted number j % 256
 unfolding numberBytes shifted
 byte-at zero number j h = absurd (not-suc-le-zero h)
 byte-at (suc n) number zero h = refl

@@ -26,13 +26,13 @@ use Rattle.cases.proofs.Numbers.{number-same, number-at}
 
 -- The bytes of a case's sets alone make its sets, and say that they are such bytes.
 
-pub sets-same : (inputs : ℕ) (codes others : List ℕ) → ((net : ℕ) → net < inputs → getD codes net 0 ≡ getD others net 0)
+sets-same : (inputs : ℕ) (codes others : List ℕ) → ((net : ℕ) → net < inputs → getD codes net 0 ≡ getD others net 0)
     → setsIn inputs codes ≡ setsIn inputs others
 unfolding setsIn
 sets-same inputs codes others same =
     list-same inputs (λ net. decode (getD codes net 0)) (λ net. decode (getD others net 0)) empty (λ net l. ap decode (same net l))
 
-pub codes-same : (inputs : ℕ) (codes others : List ℕ) → inputs ≤ 64 → ((j : ℕ) → j < 64 → getD codes j 0 ≡ getD others j 0)
+codes-same : (inputs : ℕ) (codes others : List ℕ) → inputs ≤ 64 → ((j : ℕ) → j < 64 → getD codes j 0 ≡ getD others j 0)
     → SetCodes inputs codes → SetCodes inputs others
 codes-same inputs codes others few same is = record {
   low = λ net l. rw (← same net (omega arith)) (is .low net l);
@@ -97,10 +97,10 @@ module _ (inputs : ℕ) (few : inputs ≤ 64) (codes : List ℕ) (long : length 
   code-other : (k : ℕ) → (k ≡ at → ⊥) → (j : ℕ) → j < 64 → getD (drop (72 * k) store) j 0 ≡ getD (drop (72 * k) after) j 0
   code-other k n j h = getD-drop (72 * k) store j 0 ∙ sym (getD-drop (72 * k) after j 0 ∙ other-byte k j n (omega arith))
 
-  pub case-here : upper < 2 ^ 46 → caseIn inputs after at ≡ caseOf inputs codes upper
+  case-here : upper < 2 ^ 46 → caseIn inputs after at ≡ caseOf inputs codes upper
   case-here low = case-is (sym (sets-same inputs _ _ (λ net h. code-here net (omega arith)))) (upper-here low)
 
-  pub case-other : (k : ℕ) → (k ≡ at → ⊥) → caseIn inputs after k ≡ caseIn inputs store k
+  case-other : (k : ℕ) → (k ≡ at → ⊥) → caseIn inputs after k ≡ caseIn inputs store k
   case-other k n = case-is (sym (sets-same inputs _ _ (λ net h. code-other k n net (omega arith)))) (upper-other k n)
 
   -- The cases that the store has once a record is written in the place of another, or after the last.
@@ -183,7 +183,7 @@ module _ (inputs : ℕ) (store : List ℕ) (n : ℕ) where
   unfolding setsAt
   sets-at k h = ap (λ x. x .sets) (case-at k h)
 
-  pub upper-at : (k : ℕ) → k < n → upperAt (casesIn inputs store n) k ≡ upperIn store k
+  upper-at : (k : ℕ) → k < n → upperAt (casesIn inputs store n) k ≡ upperIn store k
   unfolding upperAt
   upper-at k h = ap (λ x. x .upper) (case-at k h)
 

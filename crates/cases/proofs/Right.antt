@@ -46,7 +46,7 @@ module _ (simulated : List Excitation → ℕ) (frame : Case) where
     pub tight : decided (x .sets) ≡ true → x .upper ≤ lower
 
   -- What is known of the best probe.
-  record Reached (best : Best) : Type 0 where
+  record BestKnown (best : Best) : Type 0 where
     pub chosen : Choice (best .pattern) frame
     pub reached : simulated (best .pattern) ≡ best .lower
 
@@ -54,7 +54,7 @@ module _ (simulated : List Excitation → ℕ) (frame : Case) where
   record Standing (splits : ℕ) (state : State) : Type 0 where
     pub known : {x : StoredCase} → List·Memᴰ x (state .cases) → Known (state .best .lower) x
     pub covered : {pattern : List Excitation} → Choice pattern frame → Covered pattern (state .cases)
-    pub best : Reached (state .best)
+    pub best : BestKnown (state .best)
     pub total : storedChoices (state .cases) ≡ choiceCount frame
     pub many : splits < length (state .cases)
 
@@ -73,8 +73,8 @@ module _ (simulated : List Excitation → ℕ) where
       cases (ltb (best .lower) (simulated (probe case))) (λ t. rw t (le-refl (simulated (probe case))))
       (λ t. rw t (ltb-false (best .lower) (simulated (probe case)) t))
 
-  better-reached : (frame : Case) (best : Best) (case : Case) → Reached simulated frame best → Choice (probe case) frame
-      → Reached simulated frame (better simulated best case)
+  better-reached : (frame : Case) (best : Best) (case : Case) → BestKnown simulated frame best → Choice (probe case) frame
+      → BestKnown simulated frame (better simulated best case)
   unfolding better
   better-reached frame best case reached choice =
       cases (ltb (best .lower) (simulated (probe case))) (λ t. rw t (record { chosen = choice; reached = refl })) (λ t. rw t reached)
@@ -91,8 +91,8 @@ module _ (simulated : List Excitation → ℕ) where
       rw e (le-trans (better-probed best first) (best-grown rest (better simulated best first)))
   best-probed (first ∷ rest) best (List·Memᴰ·tail m) = best-probed rest (better simulated best first) m
 
-  best-reached : (frame : Case) (new : List Case) (best : Best) → Reached simulated frame best
-      → ((case : Case) → List·Memᴰ case new → Choice (probe case) frame) → Reached simulated frame (bestOf simulated best new)
+  best-reached : (frame : Case) (new : List Case) (best : Best) → BestKnown simulated frame best
+      → ((case : Case) → List·Memᴰ case new → Choice (probe case) frame) → BestKnown simulated frame (bestOf simulated best new)
   unfolding bestOf
   best-reached frame [] best reached chosen = reached
   best-reached frame (case ∷ rest) best reached chosen =
@@ -181,7 +181,7 @@ module _ (simulated : List Excitation → ℕ) (bound choose : Case → ℕ) (fr
       abbrev after : Best
       after = bestOf simulated (state .best) new
 
-      after-reached : Reached simulated frame after
+      after-reached : BestKnown simulated frame after
       unfolding setsAt
       after-reached =
           best-reached simulated frame new (state .best) (standing .best)

@@ -55,7 +55,7 @@ pub record Found : Type 0 where
   pub splits : ℕ
   pub state : State
 
--- The checks before each split: exact if U = L; else within if 1000 × U ≤ ratio × L; else spent, if no split is left.
+-- The checks before each split: exact if U = L; else within if 1000 × U ≤ ratio × L; else spent, where no split is left.
 unfoldable pub outcomeOf : ℕ → ℕ → ℕ → Outcome
 outcomeOf ratio upper lower = cond (eqb upper lower) Exact (cond (leb (1000 * upper) (ratio * lower)) Within Spent)
 
@@ -106,7 +106,8 @@ module _ (simulated : List Excitation → ℕ) (bound choose : Case → ℕ) whe
       }
 
 module _ (simulated : List Excitation → ℕ) (bound choose : Case → ℕ) (ratio : ℕ) where
-  -- A search from a state on, after some splits, with so many left. No split left is splits = budget.
+  -- A search from a state on, after some splits, with so many left. No split left is splits = budget; where some are left and it is
+  -- neither exact nor within, it goes on with one split.
   unfoldable pub searchFrom : ℕ → ℕ → State → Found
   searchFrom zero splits state = record { outcome = outcomeAt ratio state; splits = splits; state = state }
   searchFrom (suc left) splits state = elim (outcomeAt ratio state) [

@@ -1,5 +1,6 @@
 // The program: reads a block from standard input, searches it, and prints the answer and the worst pattern found.
 ghost use mathlib.Core.Path.{_≡_};
+ghost use Prim.Native.Nat.{_≤_};
 ghost use lib.ListN.{length};
 use block::ReadAnswer;
 use cases::Outcome;
@@ -80,9 +81,11 @@ fn print_excitation(byte: u8) {
 }
 
 // A line of the pattern, one word per input, single blanks between.
-fn print_pattern(pattern: &[u8]) {
+fn print_pattern(pattern: &[u8], inputs: usize)
+    requires { ⌜ inputs ≤ length (now pattern) ⌝ }
+{
     let mut net: usize = 0;
-    while net < pattern.len() {
+    while net < inputs {
         if 0 < net {
             print_blank();
         }
@@ -92,21 +95,10 @@ fn print_pattern(pattern: &[u8]) {
     print_end();
 }
 
-// The pattern's line, of as many bytes as the file has inputs. Search has accepted the file, so there are counts, and at most 64 inputs.
-fn print_inputs(file: &[u8], pattern: &[u8]) {
-    match block::read(file) {
-        ReadAnswer::Refused(r) => print_refusal(r.number, r.place),
-        ReadAnswer::Counts { nets: _, inputs } => {
-            let n = inputs as usize;
-            if n <= pattern.len() {
-                print_pattern(&pattern[..n]);
-            }
-        }
-    }
-}
-
-// Searches a file with one node of 16 resistances of 1, hops 10, ratio 1,000, budget 200.
-fn estimate(file: &[u8]) {
+// Searches a file with one node of 16 resistances of 1, hops 10, ratio 1,000, budget 200. The buffers serve 256 nets and that budget.
+fn estimate(file: &[u8], inputs: usize)
+    requires { ⌜ inputs ≤ 64 ⌝ }
+{
     let table = [1u16; 16];
     let mut sheet = [0u32; 8192];
     let mut pattern = [0u8; 64];
@@ -132,18 +124,21 @@ fn estimate(file: &[u8]) {
             cases,
         } => {
             print_answer(outcome, upper, lower, splits, cases);
-            print_inputs(file, &pattern);
+            print_pattern(&pattern, inputs);
         }
     }
 }
 
-// A byte more than the program takes is refusal 2, before any other check.
+// A byte more than the program takes is refusal 2, before any other check. Then Read has the first say, as it has in Search.
 fn run(file: &[u8]) {
     if MOST < file.len() {
         print_refusal(2, 0);
         return;
     }
-    estimate(file);
+    match block::read(file) {
+        ReadAnswer::Refused(r) => print_refusal(r.number, r.place),
+        ReadAnswer::Counts { nets: _, inputs } => estimate(file, inputs as usize),
+    }
 }
 
 fn main() {

@@ -5,7 +5,7 @@
 use check::implementation::{Implementation, Operation, LIBRARY, SECOND};
 use check::kind::{AND, BUF, NAND, NOR, NOT, OR, XNOR, XOR};
 use check::pattern::{H, HL, L, LH};
-use check::sample::{drawing, gate, input, patterns, silent, Arguments, Random, Record, Shape};
+use check::sample::{self, drawing, gate, input, patterns, silent, Arguments, Random, Record, Shape};
 use zimgurav::{Currents, Refusal};
 
 /// Checks the drop, the quiet tick and every word of the sheet. A row is written from tick 0 and is
@@ -59,14 +59,7 @@ mod block_f {
 
     /// Block F with resistances 2 and 1 at contacts 0 and 1.
     fn arguments(excitations: [u8; 2]) -> Arguments {
-        let not = drawing(gate(NOT, &[0]), [0, 1, 1, 2], [10, 20]);
-        let nand = drawing(gate(NAND, &[1, 2]), [1, 2, 2, 2], [30, 31]);
-        let block = [input(15), input(15), not, nand];
-        assert_eq!(
-            block.concat(),
-            include_bytes!("../../../examples/block_f.blk")
-        );
-        let mut arguments = with_pattern(&block, &excitations);
+        let mut arguments = with_pattern(&sample::block_f(), &excitations);
         arguments.table = vec![0; 16];
         arguments.table[..2].copy_from_slice(&[2, 1]);
         arguments
@@ -116,14 +109,7 @@ mod block_s {
     use super::*;
 
     fn arguments(excitation: u8) -> Arguments {
-        let buf = drawing(gate(BUF, &[0]), [0, 1, 1, 1], [10, 0]);
-        let not = drawing(gate(NOT, &[0]), [0, 1, 1, 1], [10, 0]);
-        let block = [input(15), buf, not];
-        assert_eq!(
-            block.concat(),
-            include_bytes!("../../../examples/block_s.blk")
-        );
-        with_pattern(&block, &[excitation])
+        with_pattern(&sample::block_s(), &[excitation])
     }
 
     /// U is 20 before any split.

@@ -2,7 +2,7 @@
 //! the library and the second implementation must give them.
 
 use check::kind::{AND, BUF, INPUT, NAND, NOT, XNOR};
-use check::sample::{gate, input, Record};
+use check::sample::{self, gate, input, Record};
 use check::second;
 use zimgurav::{raw, read, Counts, Refusal};
 
@@ -539,12 +539,7 @@ mod examples {
 
     #[test]
     fn block_s() {
-        let with_peak = |record| with(record, 14, 10);
-        let block = [
-            input(15),
-            with_peak(gate(BUF, &[0])),
-            with_peak(gate(NOT, &[0])),
-        ];
+        let block = sample::block_s();
         assert_eq!(
             block.concat(),
             include_bytes!("../../../examples/block_s.blk")
@@ -554,17 +549,7 @@ mod examples {
 
     #[test]
     fn block_f() {
-        let mut not = gate(NOT, &[0]);
-        not[13] = 2;
-        not[14] = 10;
-        not[16] = 20;
-        let mut nand = gate(NAND, &[1, 2]);
-        nand[1] = 1;
-        nand[2] = 2;
-        nand[12..14].fill(2);
-        nand[14] = 30;
-        nand[16] = 31;
-        let block = [input(15), input(15), not, nand];
+        let block = sample::block_f();
         assert_eq!(
             block.concat(),
             include_bytes!("../../../examples/block_f.blk")

@@ -3,10 +3,10 @@
 //! must give them.
 
 use check::implementation::{LIBRARY, SECOND};
-use check::kind::{AND, BUF, INPUT, NAND, NOT, XOR};
+use check::kind::{AND, BUF, INPUT, NOT, XOR};
 use check::pattern::{H, HL, L, LH};
 use check::sample::{
-    drawing, gate, input, patterns, peaks, silent, Arguments, Random, Record, Shape,
+    self, gate, input, patterns, peaks, silent, Arguments, Random, Record, Shape,
 };
 use zimgurav::{Found, Outcome};
 
@@ -95,12 +95,7 @@ mod block_s {
     use super::*;
 
     fn arguments() -> Arguments {
-        let block = [&[input(15)], &pair(0)[..]].concat();
-        assert_eq!(
-            block.concat(),
-            include_bytes!("../../../examples/block_s.blk")
-        );
-        Arguments::new(&block)
+        Arguments::new(&sample::block_s())
     }
 
     const WITHOUT_A_SPLIT: Expected = Expected {
@@ -214,14 +209,7 @@ mod block_f {
 
     /// Block F with these resistances at contacts 0 and 1.
     fn arguments(resistances: [u16; 2]) -> Arguments {
-        let not = drawing(gate(NOT, &[0]), [0, 1, 1, 2], [10, 20]);
-        let nand = drawing(gate(NAND, &[1, 2]), [1, 2, 2, 2], [30, 31]);
-        let block = [input(15), input(15), not, nand];
-        assert_eq!(
-            block.concat(),
-            include_bytes!("../../../examples/block_f.blk")
-        );
-        let mut arguments = Arguments::new(&block);
+        let mut arguments = Arguments::new(&sample::block_f());
         arguments.table = vec![0; 16];
         arguments.table[..2].copy_from_slice(&resistances);
         arguments

@@ -2,16 +2,15 @@
 -- Assumes nothing.
 use Prim.Native.Nat.{_-_, _≤_}
 use native.Mathlib.Omega.{arith}
-use lib.ListN.{length}
 use borrow.Author.Needs.{needs}
 use Rattle.estimate.proofs.print_pattern.Statement.{statement}
 use Rattle.estimate.proofs.print_pattern.Tie as tie
 
 abbrev Inv-loop : tie.InvT-loop
-Inv-loop pattern net₀ net = net ≤ length pattern
+Inv-loop pattern inputs net₀ net = net ≤ inputs
 
 abbrev μ-loop : tie.MeasureT-loop
-μ-loop pattern net₀ net = length pattern - net
+μ-loop pattern inputs net₀ net = inputs - net
 
 loop-holds : tie.Need-loop-holds Inv-loop μ-loop
 loop-holds c = omega arith

@@ -1,7 +1,7 @@
 //! Records and random valid blocks.
 
 use super::Random;
-use crate::kind::{AND, BUF, INPUT, NOT};
+use crate::kind::{AND, BUF, INPUT, NAND, NOT};
 
 /// The 20 bytes of a net.
 pub type Record = [u8; 20];
@@ -52,6 +52,19 @@ pub fn peaks(gate: Record, peaks: [u16; 2]) -> Record {
 /// The gate as one that draws nothing, with this delay.
 pub fn silent(gate: Record, delay: u8) -> Record {
     drawing(gate, [0, delay, 1, 1], [0, 0])
+}
+
+/// Document 01's block S: an input of set 15, BUF and NOT of it.
+pub fn block_s() -> Vec<Record> {
+    let drawn = |kind| peaks(gate(kind, &[0]), [10, 0]);
+    vec![input(15), drawn(BUF), drawn(NOT)]
+}
+
+/// Document 01's block F: two inputs of set 15, NOT of net 0, NAND of nets 1 and 2.
+pub fn block_f() -> Vec<Record> {
+    let not = drawing(gate(NOT, &[0]), [0, 1, 1, 2], [10, 20]);
+    let nand = drawing(gate(NAND, &[1, 2]), [1, 2, 2, 2], [30, 31]);
+    vec![input(15), input(15), not, nand]
 }
 
 /// What a random block looks like.

@@ -7,6 +7,6 @@ mod damage;
 mod random;
 
 pub use arguments::{allowed, patterns, store_length, Arguments};
-pub use block::{drawing, gate, input, peaks, silent, Record, Shape};
+pub use block::{block_f, block_s, drawing, gate, input, peaks, silent, Record, Shape};
 pub use damage::damage;
 pub use random::Random;
