@@ -1,4 +1,5 @@
 pub mod Record
+pub mod View
 pub mod Kind
 pub mod Block
 pub mod Verdict

@@ -12,6 +12,7 @@ mod checks;
 mod kind;
 mod reader;
 pub mod record;
+pub mod view;
 
 pub use kind::Rule;
 pub use kind::gate_rule;
@@ -27,6 +28,24 @@ impl Net {
     {
         20 * self.0
     }
+}
+
+// The peaks of a gate's pulses, in microamperes.
+pub struct Peaks {
+    pub lh: usize,
+    pub hl: usize,
+}
+
+// A gate as its record has it. `used` is its pin count: pins 0 to `used` - 1 are used.
+pub struct Gate {
+    pub kind: usize,
+    pub contact: usize,
+    pub delay: usize,
+    pub used: usize,
+    pub pins: [Net; 4],
+    pub rise: usize,
+    pub fall: usize,
+    pub peaks: Peaks,
 }
 
 // Document 01's refusal.

@@ -1,8 +1,10 @@
 // The fields of a record, read through the file's bytes. Each is named as document 01 names it.
 ghost use mathlib.Core.Path.{_≡_};
 ghost use Prim.Native.Nat.{_<_};
-ghost use Rattle.block.specs.Record.{HasRecord, byteAt, wordAt, kind, contact, delay, pinCount, pin, rise, fall, peakLh, peakHl, allowed};
+ghost use Rattle.block.specs.Record.{HasRecord, byteAt, wordAt, kind, contact, delay, pinCount, pin, rise, fall, peakLh, peakHl, allowed, GateRead};
+use super::Gate;
 use super::Net;
+use super::Peaks;
 use super::wide;
 
 // Byte k of the record of a net.
@@ -91,4 +93,31 @@ pub fn allowed(file: &[u8], net: Net) -> usize
     ensures { λ r. ⌜ (r ≡ allowed (now (file .entry)) (net .0)) × (r < 256) ⌝ }
 {
     byte(file, net, 18)
+}
+
+// The gate of a net.
+pub fn gate(file: &[u8], net: Net) -> Gate
+    requires { ⌜ HasRecord (now file) (net .0) ⌝ }
+    ensures { λ r. ⌜ GateRead (now (file .entry)) (net .0) r ⌝ }
+{
+    let pins = [
+        pin(file, net, 0),
+        pin(file, net, 1),
+        pin(file, net, 2),
+        pin(file, net, 3),
+    ];
+    let peaks = Peaks {
+        lh: peak_lh(file, net),
+        hl: peak_hl(file, net),
+    };
+    Gate {
+        kind: kind(file, net),
+        contact: contact(file, net),
+        delay: delay(file, net),
+        used: pin_count(file, net),
+        pins,
+        rise: rise(file, net),
+        fall: fall(file, net),
+        peaks,
+    }
 }

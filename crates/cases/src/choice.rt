@@ -10,21 +10,22 @@ ghost use Rattle.laws.specs.Rewritten.{Rewritten};
 ghost use Rattle.cases.specs.Choice.{rankOf, chosenInput};
 use super::sets;
 use block::Net;
-use block::record;
+use block::view;
 
-// Whether a net is a pin of a gate, or feeds one of its pins, given which nets below the gate it feeds.
-fn feeds(file: &[u8], source: Net, fed: &[bool], gate: Net) -> bool
-    requires { ⌜ HasRecord (now file) (gate .0) × (pinCount (now file) (gate .0) ≤ 4) × ((p : ℕ) → p < pinCount (now file) (gate .0) → pin (now file) (gate .0) p < length (now fed)) ⌝ }
-    ensures { λ r. ⌜ r ≡ fedFrom (now (file .entry)) (source .0) (now (fed .entry)) (gate .0) ⌝ }
+// Whether a source is a pin of the gate of a net, or feeds one of its pins, given which nets below the gate it feeds.
+fn feeds(file: &[u8], source: Net, fed: &[bool], net: Net) -> bool
+    requires { ⌜ HasRecord (now file) (net .0) × (pinCount (now file) (net .0) ≤ 4) × ((p : ℕ) → p < pinCount (now file) (net .0) → pin (now file) (net .0) p < length (now fed)) ⌝ }
+    ensures { λ r. ⌜ r ≡ fedFrom (now (file .entry)) (source .0) (now (fed .entry)) (net .0) ⌝ }
 {
-    let pins = record::pin_count(file, gate);
+    let gate = view::gate(file, net);
     let mut p: usize = 0;
-    while p < pins {
-        let net = record::pin(file, gate, p).0;
-        if net == source.0 {
+    while p < gate.used {
+        let pin = gate.pins[p];
+        let at = pin.0;
+        if at == source.0 {
             return true;
         }
-        if fed[net] {
+        if fed[at] {
             return true;
         }
         p += 1;

@@ -9,7 +9,7 @@ use super::level;
 use super::level::Pulse;
 use super::sheet;
 use block::Net;
-use block::record;
+use block::view;
 
 // The first tick at which no pulse of a gate is left.
 fn quiet_from(last: usize, delay: usize, rise: usize, fall: usize) -> usize
@@ -28,13 +28,13 @@ fn draw_row(file: &[u8], net: Net, codes: &[u8], last: usize, seen: u8, row: &mu
     requires { ⌜ GateCodes (now file) (net .0) (now codes) last seen × (now row ≡ replicate 512 0) ⌝ }
     ensures { λ _. ⌜ RowDrawn (now (file .entry)) (net .0) (now (codes .entry)) (now (row .exit)) ⌝ }
 {
-    let delay = record::delay(file, net);
-    let rise = record::rise(file, net);
-    let fall = record::fall(file, net);
+    let gate = view::gate(file, net);
+    let rise = gate.rise;
+    let fall = gate.fall;
     let rising = level::factor(rise);
     let falling = level::factor(fall);
-    let peak_lh = record::peak_lh(file, net) as u32;
-    let peak_hl = record::peak_hl(file, net) as u32;
+    let peak_lh = gate.peaks.lh as u32;
+    let peak_hl = gate.peaks.hl as u32;
     if peak_hl <= peak_lh {
         let lh = Pulse {
             peak: peak_lh,
@@ -43,7 +43,16 @@ fn draw_row(file: &[u8], net: Net, codes: &[u8], last: usize, seen: u8, row: &mu
             rising,
             falling,
         };
-        edge::draw_edges(row, lh, peak_hl, codes, seen, edge::LH_BIT, delay, last);
+        edge::draw_edges(
+            row,
+            lh,
+            peak_hl,
+            codes,
+            seen,
+            edge::LH_BIT,
+            gate.delay,
+            last,
+        );
         return;
     }
     let hl = Pulse {
@@ -53,7 +62,16 @@ fn draw_row(file: &[u8], net: Net, codes: &[u8], last: usize, seen: u8, row: &mu
         rising,
         falling,
     };
-    edge::draw_edges(row, hl, peak_lh, codes, seen, edge::HL_BIT, delay, last);
+    edge::draw_edges(
+        row,
+        hl,
+        peak_lh,
+        codes,
+        seen,
+        edge::HL_BIT,
+        gate.delay,
+        last,
+    );
 }
 
 // A gate's current added to the sheet. Past tick `last` the gate has no transition. A gate without transitions adds nothing.
@@ -61,18 +79,13 @@ pub fn draw_gate(file: &[u8], net: Net, codes: &[u8], last: usize, sheet: &mut [
     requires { ⌜ Drawable (now file) (net .0) (now codes) last (now sheet) ⌝ }
     ensures { λ _. ⌜ Drawn (now (file .entry)) (net .0) (now (codes .entry)) (now (sheet .entry)) (now (sheet .exit)) ⌝ }
 {
-    let delay = record::delay(file, net);
-    let seen = edge::seen(codes, delay, last + 1);
+    let gate = view::gate(file, net);
+    let seen = edge::seen(codes, gate.delay, last + 1);
     if seen & edge::BOTH_BITS == 0 {
         return;
     }
     let mut row = [0u32; 512];
     draw_row(file, net, codes, last, seen, &mut row);
-    let end = quiet_from(
-        last,
-        delay,
-        record::rise(file, net),
-        record::fall(file, net),
-    );
-    sheet::add_row(sheet, 512 * record::contact(file, net), &row, end);
+    let end = quiet_from(last, gate.delay, gate.rise, gate.fall);
+    sheet::add_row(sheet, 512 * gate.contact, &row, end);
 }

@@ -9,7 +9,7 @@ ghost use Rattle.waveform.specs.Rows.{HasRow, arrivalIn, arrivalsIn};
 ghost use Rattle.evaluation.specs.Evaluation.{HasRows, InputCodes, InputsMade, Given, BlockDrawn, Evaluated};
 use block::Net;
 use block::Refusal;
-use block::record;
+use block::view;
 
 pub mod arguments;
 
@@ -68,8 +68,8 @@ fn last_flow(file: &[u8], net: Net, work: &[u8]) -> usize
     ensures { λ r. ⌜ r ≡ arrivalIn (now (work .entry)) (net .0) - delay (now (file .entry)) (net .0) + rise (now (file .entry)) (net .0) + fall (now (file .entry)) (net .0) ⌝ }
 {
     let arrival = waveform::arrival(work, net);
-    let delay = record::delay(file, net);
-    arrival - delay + record::rise(file, net) + record::fall(file, net)
+    let gate = view::gate(file, net);
+    arrival - gate.delay + gate.rise + gate.fall
 }
 
 // The tick after which no current flows, from the arrivals in the work buffer.

@@ -109,17 +109,17 @@ module _ (file : File) (net : ℕ) (work : List ℕ) (ready : Ready file net wor
   pins-soon = max-at-most (pinCount file net) _ _ (λ p h. ready .settled p h .soon)
 
   -- Sample k of a pin: before tick 0, and at tick k - 1.
-  sample-before : (p : ℕ) → pinSample file net work 0 p ≡ waveformIn work (pin file net p) .before
+  sample-before : (p : ℕ) → pinSample (pin file net) work 0 p ≡ waveformIn work (pin file net p) .before
   unfolding pinSample sampleIn waveformIn
   sample-before p = decode-low _
 
-  sample-at : (t p : ℕ) → pinSample file net work (t + 1) p ≡ decode (codeIn work (pin file net p) t)
+  sample-at : (t p : ℕ) → pinSample (pin file net) work (t + 1) p ≡ decode (codeIn work (pin file net p) t)
   unfolding pinSample sampleIn
   sample-at t p = let e : t + 1 - 1 ≡ t = omega arith in rw (ne-eqb (t + 1) 0 (λ z. omega arith), e) refl
 
   -- A pin at t − D, from its samples up to tick last + 1.
   pin-earlier : (t p : ℕ) → t < 256 → p < pinCount file net
-      → pinSample file net work (min (t + 1 - D) (last + 2)) p ≡ earlier D t (waveformIn work (pin file net p))
+      → pinSample (pin file net) work (min (t + 1 - D) (last + 2)) p ≡ earlier D t (waveformIn work (pin file net p))
   unfolding earlier
   pin-earlier t p h q =
       let w = waveformIn work (pin file net p) in

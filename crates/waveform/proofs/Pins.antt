@@ -13,9 +13,9 @@ use borrow.Table.Steps.{cases}
 use Rattle.laws.specs.Rewritten.{Rewritten}
 use Rattle.laws.specs.Turn.{listBelow}
 use Rattle.laws.proofs.Rewritten.{rewritten-first}
-use Rattle.laws.proofs.Turn.{list-next}
+use Rattle.laws.proofs.Turn.{list-next, list-same}
 use Rattle.excitation.specs.Excitation.{levelsOf}
-use Rattle.excitation.specs.UncertaintySet.{UncertaintySet, code, decode, joinSets, invertSet}
+use Rattle.excitation.specs.UncertaintySet.{UncertaintySet, code, decode, joinSets, invertSet, empty}
 use Rattle.excitation.specs.declared.Join.{Join}
 use Rattle.excitation.proofs.Codes.{code-below, decode-code}
 use Rattle.block.specs.Gate.{gateValue}
@@ -24,25 +24,25 @@ use Rattle.block.specs.Record.{File, kind, pinCount, pin}
 use Rattle.block.specs.declared.kind.Rule.{Rule}
 use Rattle.fill.specs.Codes.{Codes, Settled}
 use Rattle.waveform.specs.Pins.{pinSample, joinedSample, Sampled, RowJoined, PinsJoined, Inverted, GateSampled, Delayed}
-use Rattle.waveform.specs.Rows.{Unpacked}
+use Rattle.waveform.specs.Rows.{Unpacked, sampleIn}
 use Rattle.waveform.specs.Waveform.{gateFrom}
 
-module _ (file : File) (net : ℕ) (work : List ℕ) (by : Join) where
+module _ (netOf : ℕ → ℕ) (work : List ℕ) (by : Join) where
   -- One pin more is joined.
   joined-next : (p k : ℕ) → 1 ≤ p
-      → joinedSample file net work by (p + 1) k ≡ joinSets (levelsOf by) (joinedSample file net work by p k) (pinSample file net work k p)
+      → joinedSample netOf work by (p + 1) k ≡ joinSets (levelsOf by) (joinedSample netOf work by p k) (pinSample netOf work k p)
   unfolding joinedSample
   joined-next p k h =
-      let f : ℕ → UncertaintySet = λ q. pinSample file net work k (q + 1) in
+      let f : ℕ → UncertaintySet = λ q. pinSample netOf work k (q + 1) in
       let e : p + 1 - 1 ≡ p - 1 + 1 = omega arith in
       let g : p - 1 + 1 ≡ p = omega arith in
-      ap (λ m. foldl (joinSets (levelsOf by)) (pinSample file net work k 0) (listBelow m f)) e
-      ∙ ap (foldl (joinSets (levelsOf by)) (pinSample file net work k 0)) (list-next (p - 1) f)
-      ∙ foldl-append (joinSets (levelsOf by)) (pinSample file net work k 0) (listBelow (p - 1) f) (f (p - 1) ∷ [])
-      ∙ ap (λ q. joinSets (levelsOf by) (foldl (joinSets (levelsOf by)) (pinSample file net work k 0) (listBelow (p - 1) f)) (pinSample file net work k q)) g
+      ap (λ m. foldl (joinSets (levelsOf by)) (pinSample netOf work k 0) (listBelow m f)) e
+      ∙ ap (foldl (joinSets (levelsOf by)) (pinSample netOf work k 0)) (list-next (p - 1) f)
+      ∙ foldl-append (joinSets (levelsOf by)) (pinSample netOf work k 0) (listBelow (p - 1) f) (f (p - 1) ∷ [])
+      ∙ ap (λ q. joinSets (levelsOf by) (foldl (joinSets (levelsOf by)) (pinSample netOf work k 0) (listBelow (p - 1) f)) (pinSample netOf work k q)) g
 
   -- The first pin alone.
-  pub first-joined : (n : ℕ) (samples : List ℕ) → n ≤ 257 → Unpacked work (pin file net 0) samples → Sampled (joinedSample file net work by 1) n samples
+  pub first-joined : (n : ℕ) (samples : List ℕ) → n ≤ 257 → Unpacked work (netOf 0) samples → Sampled (joinedSample netOf work by 1) n samples
   unfolding joinedSample pinSample listBelow Rattle.laws.specs.Turn.inTurn
   first-joined n samples h u = record {
     long = u .coded .long;
@@ -50,14 +50,31 @@ module _ (file : File) (net : ℕ) (work : List ℕ) (by : Join) where
     at = λ k l. ap decode (u .at k (omega arith));
   }
 
-  pub more-joined : (n p : ℕ) (samples after : List ℕ) → 1 ≤ p → Sampled (joinedSample file net work by p) n samples
-      → RowJoined work (pin file net p) by n samples after → Sampled (joinedSample file net work by (p + 1)) n after
+  pub more-joined : (n p : ℕ) (samples after : List ℕ) → 1 ≤ p → Sampled (joinedSample netOf work by p) n samples
+      → RowJoined work (netOf p) by n samples after → Sampled (joinedSample netOf work by (p + 1)) n after
   unfolding pinSample
   more-joined n p samples after o s w = record {
     long = w .long ∙ s .long;
     low = λ k l. subst (λ x. x < 16) (sym (w .at k l)) (code-below _);
     at = λ k l. ap decode (w .at k l) ∙ decode-code _ ∙ rw (s .at k l) (sym (joined-next p k o));
   }
+
+-- The pins of a gate that was read from its record are joined as the record's.
+pub pins-joined : (file : File) (net : ℕ) (work : List ℕ) (by : Join) (netOf : ℕ → ℕ) (n pins : ℕ) (samples : List ℕ)
+    → ((p : ℕ) → p < pins → netOf p ≡ pin file net p) → pins ≡ pinCount file net → 1 ≤ pinCount file net
+    → Sampled (joinedSample netOf work by pins) n samples → PinsJoined file net work by n samples
+unfolding joinedSample pinSample
+pins-joined file net work by netOf n pins samples same e h s = record {
+  long = s .long;
+  low = s .low;
+  at = λ k l. s .at k l ∙ ap (λ m. joinedSample netOf work by m k) e ∙ joined k;
+}
+  where
+    joined : (k : ℕ) → joinedSample netOf work by (pinCount file net) k ≡ joinedSample (pin file net) work by (pinCount file net) k
+    joined k =
+        let rest = list-same (pinCount file net - 1) (λ p. decode (sampleIn work (netOf (p + 1)) k)) (λ p. decode (sampleIn work (pin file net (p + 1)) k)) empty
+        (λ p l. ap (λ m. decode (sampleIn work m k)) (same (p + 1) (omega (arith, e)))) in
+        rw (same 0 (omega (arith, e)), rest) refl
 
 -- The join turned over for a kind that inverts is what the gate makes of its pins.
 pub gate-sampled : (file : File) (net : ℕ) (work : List ℕ) (rule : Rule) (n : ℕ) (samples after : List ℕ) → rule ≡ ruleOf (kindOf (kind file net))
@@ -77,7 +94,7 @@ gate-sampled file net work rule n samples after e s i hops =
 
     at : (inverts : Bool) (k : ℕ) → k < n
         → decode (cond inverts (code (invertSet (decode (getD samples k 0)))) (getD samples k 0))
-        ≡ cond inverts (invertSet (joinedSample file net work (rule .join) (pinCount file net) k)) (joinedSample file net work (rule .join) (pinCount file net) k)
+        ≡ cond inverts (invertSet (joinedSample (pin file net) work (rule .join) (pinCount file net) k)) (joinedSample (pin file net) work (rule .join) (pinCount file net) k)
     at true k l = decode-code _ ∙ ap invertSet (s .at k l)
     at false k l = s .at k l
 

@@ -12,14 +12,14 @@ use Rattle.block.specs.Record.{File, pinCount, pin}
 use Rattle.waveform.specs.Rows.{sampleIn}
 use Rattle.waveform.specs.Waveform.{envelope, gateFrom}
 
--- The set of pin p at sample k.
-unfoldable pub pinSample : File → ℕ → List ℕ → ℕ → ℕ → UncertaintySet
-pinSample file net work k p = decode (sampleIn work (pin file net p) k)
+-- The set of pin p at sample k, given the net of each pin.
+unfoldable pub pinSample : (ℕ → ℕ) → List ℕ → ℕ → ℕ → UncertaintySet
+pinSample netOf work k p = decode (sampleIn work (netOf p) k)
 
 -- The join of the first `pins` pins of a gate at sample k, left to right.
-unfoldable pub joinedSample : File → ℕ → List ℕ → Join → ℕ → ℕ → UncertaintySet
-joinedSample file net work by pins k =
-    foldl (joinSets (levelsOf by)) (pinSample file net work k 0) (listBelow (pins - 1) (λ p. pinSample file net work k (p + 1)))
+unfoldable pub joinedSample : (ℕ → ℕ) → List ℕ → Join → ℕ → ℕ → UncertaintySet
+joinedSample netOf work by pins k =
+    foldl (joinSets (levelsOf by)) (pinSample netOf work k 0) (listBelow (pins - 1) (λ p. pinSample netOf work k (p + 1)))
 
 -- The first n samples hold sets given by a rule.
 pub record Sampled (rule : ℕ → UncertaintySet) (n : ℕ) (samples : List ℕ) : Type 0 where
@@ -33,7 +33,7 @@ pub record RowJoined (work : List ℕ) (net : ℕ) (by : Join) (n : ℕ) (given 
   pub at : (k : ℕ) → k < n → getD after k 0 ≡ code (joinSets (levelsOf by) (decode (getD given k 0)) (decode (sampleIn work net k)))
 
 abbrev pub PinsJoined : File → ℕ → List ℕ → Join → ℕ → List ℕ → Type 0
-PinsJoined file net work by n samples = Sampled (joinedSample file net work by (pinCount file net)) n samples
+PinsJoined file net work by n samples = Sampled (joinedSample (pin file net) work by (pinCount file net)) n samples
 
 -- The first n samples turned over, or not.
 pub record Inverted (inverts : Bool) (n : ℕ) (given after : List ℕ) : Type 0 where
@@ -42,7 +42,7 @@ pub record Inverted (inverts : Bool) (n : ℕ) (given after : List ℕ) : Type 0
 
 -- The first n samples hold what the gate makes of its pins.
 abbrev pub GateSampled : File → ℕ → List ℕ → ℕ → List ℕ → Type 0
-GateSampled file net work n samples = (hops : ℕ) → Sampled (λ k. gateFrom (envelope hops) file net (pinSample file net work k)) n samples
+GateSampled file net work n samples = (hops : ℕ) → Sampled (λ k. gateFrom (envelope hops) file net (pinSample (pin file net) work k)) n samples
 
 -- The codes d ticks after the samples, which are the same from tick `last` + 1 on.
 pub record Delayed (d last : ℕ) (samples codes : List ℕ) : Type 0 where

@@ -11,7 +11,7 @@ use super::join;
 use super::row;
 use super::stretch;
 use block::Net;
-use block::record;
+use block::view;
 use excitation::Join;
 
 // The greatest arrival of some nets, and the tick after which all of them stay the same.
@@ -25,12 +25,12 @@ fn latest_pin(file: &[u8], net: Net, work: &[u8]) -> Latest
     requires { ⌜ HasRecord (now file) (net .0) × GateRecord (now file) (net .0) × HasRow (now work) (net .0) ⌝ }
     ensures { λ r. ⌜ (r .arrival ≡ latestIn (now (file .entry)) (now (work .entry)) (net .0)) × (r .last ≡ pinsLastIn (now (file .entry)) (now (work .entry)) (net .0)) × (r .arrival < 256) × (r .last < 256) ⌝ }
 {
-    let pins = record::pin_count(file, net);
+    let gate = view::gate(file, net);
     let mut arrival: usize = 0;
     let mut last: usize = 0;
     let mut p: usize = 0;
-    while p < pins {
-        let source = record::pin(file, net, p);
+    while p < gate.used {
+        let source = gate.pins[p];
         arrival = block::greater(arrival, row::arrival(work, source));
         last = block::greater(last, row::last(work, source));
         p += 1;
@@ -51,12 +51,12 @@ fn join_pins(
     requires { ⌜ HasRecord (now file) (net .0) × GateRecord (now file) (net .0) × HasRow (now work) (net .0) × (1 ≤ n) × (n ≤ 257) × (length (now samples) ≡ 257) × (now joins ≡ joinTable) ⌝ }
     ensures { λ _. ⌜ PinsJoined (now (file .entry)) (net .0) (now (work .entry)) by n (now (samples .exit)) ⌝ }
 {
-    let pins = record::pin_count(file, net);
-    let first = record::pin(file, net, 0);
+    let gate = view::gate(file, net);
+    let first = gate.pins[0];
     row::unpack(work, first, samples);
     let mut p: usize = 1;
-    while p < pins {
-        let source = record::pin(file, net, p);
+    while p < gate.used {
+        let source = gate.pins[p];
         join::join_row(samples, work, source, joins, by, n);
         p += 1;
     }
@@ -78,8 +78,8 @@ fn gate_samples(file: &[u8], net: Net, work: &[u8], joins: &[u8], n: usize, samp
     requires { ⌜ HasRecord (now file) (net .0) × GateRecord (now file) (net .0) × HasRow (now work) (net .0) × (1 ≤ n) × (n ≤ 257) × (length (now samples) ≡ 257) × (now joins ≡ joinTable) ⌝ }
     ensures { λ _. ⌜ GateSampled (now (file .entry)) (net .0) (now (work .entry)) n (now (samples .exit)) ⌝ }
 {
-    let kind = record::kind(file, net);
-    let rule = block::gate_rule(kind);
+    let gate = view::gate(file, net);
+    let rule = block::gate_rule(gate.kind);
     let by = rule.join;
     join_pins(file, net, work, joins, by, n, samples);
     invert_if(samples, rule.inverts, n);
@@ -137,7 +137,8 @@ pub fn gate_waveform(
     let mut samples = [0u8; 257];
     let latest = latest_pin(file, net, work);
     let pins_last = latest.last;
-    let d = record::delay(file, net);
+    let gate = view::gate(file, net);
+    let d = gate.delay;
     let arrival = latest.arrival + d;
     let bound = pins_last + d;
     gate_samples(file, net, work, joins, pins_last + 3, &mut samples);

@@ -7,8 +7,8 @@ use Rattle.waveform.proofs.Pins.{gate-sampled}
 use Rattle.waveform.proofs.gate.gate_samples.Statement.{statement}
 use Rattle.waveform.proofs.gate.gate_samples.Tie as tie
 
-kind-requires : tie.Need-kind-requires
-kind-requires c κs = search needs
+gate-requires : tie.Need-gate-requires
+gate-requires c κs = search needs
 
 gate-rule-requires : tie.Need-gate-rule-requires
 gate-rule-requires c κs = search needs
@@ -27,13 +27,13 @@ returns c =
     let s = c .before .before .before .before .before .before .before .before .before .before .before .before .before .before in
     let rule = c .before .before .before .before .before .before .before .before .gate-rule in
     gate-sampled (s .args .file .now) (s .args .net .0) (s .args .work .now) (rule .result) (s .args .n) _ _
-    (rule .ensures ∙ ap (λ k. ruleOf (kindOf k)) (c .before .before .before .before .before .before .before .before .before .kind .ensures .0)) (c .before .before .before .before .before .before .join-pins .ensures) (c .before .before .invert-if .ensures)
+    (rule .ensures ∙ ap (λ k. ruleOf (kindOf k)) (c .before .before .before .before .before .before .before .before .before .gate .ensures .kind-is)) (c .before .before .before .before .before .before .join-pins .ensures) (c .before .before .invert-if .ensures)
 
 pub gate-samples-spec : {M : Type 1} → statement M
 gate-samples-spec =
     tie.close
     (tie.spec
-    kind-requires
+    gate-requires
     gate-rule-requires
     join-pins-requires
     invert-if-requires

@@ -17,8 +17,8 @@ use Rattle.waveform.proofs.gate.gate_waveform.Tie as tie
 latest-pin-requires : tie.Need-latest-pin-requires
 latest-pin-requires c κs = search needs
 
-delay-requires : tie.Need-delay-requires
-delay-requires c κs = search needs
+gate-requires : tie.Need-gate-requires
+gate-requires c κs = search needs
 
 add-arrival : tie.Need-add-arrival
 add-arrival c = search needs
@@ -34,30 +34,30 @@ slice-aggregate-gate-samples c = search needs
 
 gate-samples-requires : tie.Need-gate-samples-requires
 gate-samples-requires c κs =
-    let s = c .before .before .before .before .before .before .before .before .before .before in let latest = c .before .before .before .before .latest-pin .ensures in let d = c .before .before .before .delay .ensures in let soon = pins-soon (s .args .file .now) (s .args .net .0) (s .args .work .now) (s .pre .0) (s .args .hops) in
+    let s = c .before .before .before .before .before .before .before .before .before .before in let latest = c .before .before .before .before .latest-pin .ensures in let d = c .before .before .before .gate .ensures .delay-is in let soon = pins-soon (s .args .file .now) (s .args .net .0) (s .args .work .now) (s .pre .0) (s .args .hops) in
     (s .pre .0 .has-record, s .pre .0 .gate, s .pre .0 .room, omega arith, omega (arith, s .pre .0 .in-time, s .pre .0 .gate .delay-low, latest), length-replicate {A = ℕ} 257 0, s .pre .3)
 
 slice-aggregate-delay : tie.Need-slice-aggregate-delay
 slice-aggregate-delay c = search needs
 
-delay-requires-2 : tie.Need-delay-requires-2
-delay-requires-2 c κs =
-    let s = c .before .before .before .before .before .before .before .before .before .before .before .before .before .before in let latest = c .before .before .before .before .before .before .before .before .latest-pin .ensures in let d = c .before .before .before .before .before .before .before .delay .ensures in let soon = pins-soon (s .args .file .now) (s .args .net .0) (s .args .work .now) (s .pre .0) (s .args .hops) in
+delay-requires : tie.Need-delay-requires
+delay-requires c κs =
+    let s = c .before .before .before .before .before .before .before .before .before .before .before .before .before .before in let latest = c .before .before .before .before .before .before .before .before .latest-pin .ensures in let d = c .before .before .before .before .before .before .before .gate .ensures .delay-is in let soon = pins-soon (s .args .file .now) (s .args .net .0) (s .args .work .now) (s .pre .0) (s .args .hops) in
     (s .pre .1, c .before .before .before .gate-samples .ensures (s .args .hops) .long, omega (arith, d, s .pre .0 .gate .delay-low), omega (arith, s .pre .0 .in-time, latest, d))
 
 settled-from-requires : tie.Need-settled-from-requires
 settled-from-requires c κs =
-    let s = c .before .before .before .before .before .before .before .before .before .before .before .before .before .before .before .before .before .before in let latest = c .before .before .before .before .before .before .before .before .before .before .before .before .latest-pin .ensures in let d = c .before .before .before .before .before .before .before .before .before .before .before .delay .ensures in let soon = pins-soon (s .args .file .now) (s .args .net .0) (s .args .work .now) (s .pre .0) (s .args .hops) in
+    let s = c .before .before .before .before .before .before .before .before .before .before .before .before .before .before .before .before .before .before in let latest = c .before .before .before .before .before .before .before .before .before .before .before .before .latest-pin .ensures in let d = c .before .before .before .before .before .before .before .before .before .before .before .gate .ensures .delay-is in let soon = pins-soon (s .args .file .now) (s .args .net .0) (s .args .work .now) (s .pre .0) (s .args .hops) in
     omega (arith, s .pre .0 .in-time, latest, d)
 
 fill-requires : tie.Need-fill-requires
 fill-requires c κs =
     let s = c .before .before .before .before .before .before .before .before .before .before .before .before .before .before .before .before .before .before .before in
     let last = c .before .before .before .before .before .before .before .before .before .before .before .before .before .latest-pin .result .last in
-    let d = c .before .before .before .before .before .before .before .before .before .before .before .before .delay .result in
+    let d = c .before .before .before .before .before .before .before .before .before .before .before .before .gate .result .delay in
     let samples = c .before .before .before .before .before .before .before .before .gate-samples .last .1 .1 .1 .1 .1 .0 in
-    let codes = c .before .before .before .before .delay2 .last .0 in
-    let late = c .before .before .before .before .delay2 .ensures in (
+    let codes = c .before .before .before .before .delay .last .0 in
+    let late = c .before .before .before .before .delay .ensures in (
       delayed-codes d last _ samples codes (c .before .before .before .before .before .before .before .before .gate-samples .ensures (s .args .hops)) late,
       s .pre .2,
       subst (λ t. Settled t codes) (sym (c .settled-from .ensures)) (delayed-settled d last samples codes late),
@@ -65,12 +65,12 @@ fill-requires c κs =
 
 last-change-requires : tie.Need-last-change-requires
 last-change-requires c κs =
-    let s = c .before .before .before .before .before .before .before .before .before .before .before .before .before .before .before .before .before .before .before .before .before .before .before in let latest = c .before .before .before .before .before .before .before .before .before .before .before .before .before .before .before .before .before .latest-pin .ensures in let d = c .before .before .before .before .before .before .before .before .before .before .before .before .before .before .before .before .delay .ensures in let soon = pins-soon (s .args .file .now) (s .args .net .0) (s .args .work .now) (s .pre .0) (s .args .hops) in
+    let s = c .before .before .before .before .before .before .before .before .before .before .before .before .before .before .before .before .before .before .before .before .before .before .before in let latest = c .before .before .before .before .before .before .before .before .before .before .before .before .before .before .before .before .before .latest-pin .ensures in let d = c .before .before .before .before .before .before .before .before .before .before .before .before .before .before .before .before .gate .ensures .delay-is in let soon = pins-soon (s .args .file .now) (s .args .net .0) (s .args .work .now) (s .pre .0) (s .args .hops) in
     let filled = c .before .before .before .fill .ensures in
-    let late = c .before .before .before .before .before .before .before .before .delay2 .ensures in
+    let late = c .before .before .before .before .before .before .before .before .delay .ensures in
     let last = c .before .before .before .before .before .before .before .before .before .before .before .before .before .before .before .before .before .latest-pin .result .last in (
       filled .codes .long,
-      filled-same-after (s .args .hops) (last + c .before .before .before .before .before .before .before .before .before .before .before .before .before .before .before .before .delay .result) _ _ (late .long) (delayed-settled (c .before .before .before .before .before .before .before .before .before .before .before .before .before .before .before .before .delay .result) last _ _ late) filled,
+      filled-same-after (s .args .hops) (last + c .before .before .before .before .before .before .before .before .before .before .before .before .before .before .before .before .gate .result .delay) _ _ (late .long) (delayed-settled (c .before .before .before .before .before .before .before .before .before .before .before .before .before .before .before .before .gate .result .delay) last _ _ late) filled,
       omega (arith, latest),
       omega (arith, s .pre .0 .in-time, latest, d),
     )
@@ -80,12 +80,12 @@ array-read-write c = search needs
 
 cast-write : tie.Need-cast-write
 cast-write c =
-    let s = c .before .before .before .before .before .before .before .before .before .before .before .before .before .before .before .before .before .before .before .before .before .before .before .before .before .before in let latest = c .before .before .before .before .before .before .before .before .before .before .before .before .before .before .before .before .before .before .before .before .latest-pin .ensures in let d = c .before .before .before .before .before .before .before .before .before .before .before .before .before .before .before .before .before .before .before .delay .ensures in let soon = pins-soon (s .args .file .now) (s .args .net .0) (s .args .work .now) (s .pre .0) (s .args .hops) in
+    let s = c .before .before .before .before .before .before .before .before .before .before .before .before .before .before .before .before .before .before .before .before .before .before .before .before .before .before in let latest = c .before .before .before .before .before .before .before .before .before .before .before .before .before .before .before .before .before .before .before .before .latest-pin .ensures in let d = c .before .before .before .before .before .before .before .before .before .before .before .before .before .before .before .before .before .before .before .gate .ensures .delay-is in let soon = pins-soon (s .args .file .now) (s .args .net .0) (s .args .work .now) (s .pre .0) (s .args .hops) in
     omega (arith, s .pre .0 .in-time, latest, d)
 
 cast-write-2 : tie.Need-cast-write-2
 cast-write-2 c =
-    let s = c .before .before .before .before .before .before .before .before .before .before .before .before .before .before .before .before .before .before .before .before .before .before .before .before .before .before in let latest = c .before .before .before .before .before .before .before .before .before .before .before .before .before .before .before .before .before .before .before .before .latest-pin .ensures in let d = c .before .before .before .before .before .before .before .before .before .before .before .before .before .before .before .before .before .before .before .delay .ensures in let soon = pins-soon (s .args .file .now) (s .args .net .0) (s .args .work .now) (s .pre .0) (s .args .hops) in
+    let s = c .before .before .before .before .before .before .before .before .before .before .before .before .before .before .before .before .before .before .before .before .before .before .before .before .before .before in let latest = c .before .before .before .before .before .before .before .before .before .before .before .before .before .before .before .before .before .before .before .before .latest-pin .ensures in let d = c .before .before .before .before .before .before .before .before .before .before .before .before .before .before .before .before .before .before .before .gate .ensures .delay-is in let soon = pins-soon (s .args .file .now) (s .args .net .0) (s .args .work .now) (s .pre .0) (s .args .hops) in
     omega (arith, s .pre .0 .in-time, latest, d, c .before .before .last-change .ensures .soon)
 
 write-requires : tie.Need-write-requires
@@ -104,11 +104,11 @@ returns c =
     let net = s .args .net .0 in
     let work = s .args .work .now in
     let latest = c .before .before .before .before .before .before .before .before .before .before .before .before .before .before .before .before .before .before .before .before .before .before .before .latest-pin .ensures in
-    let d = c .before .before .before .before .before .before .before .before .before .before .before .before .before .before .before .before .before .before .before .before .before .before .delay .ensures .0 in
+    let d = c .before .before .before .before .before .before .before .before .before .before .before .before .before .before .before .before .before .before .before .before .before .before .gate .ensures .delay-is in
     let samples = c .before .before .before .before .before .before .before .before .before .before .before .before .before .before .before .before .before .before .gate-samples .last .1 .1 .1 .1 .1 .0 in
     let g : GateSampled file net work (pinsLastIn file work net + 3) samples = rw (latest .1) at (c .before .before .before .before .before .before .before .before .before .before .before .before .before .before .before .before .before .before .gate-samples .ensures) in
-    let late : Delayed (delay file net) (pinsLastIn file work net) samples (c .before .before .before .before .before .before .before .before .before .before .before .before .before .before .delay2 .last .0) =
-    rw (latest .1, d) at (c .before .before .before .before .before .before .before .before .before .before .before .before .before .before .delay2 .ensures) in
+    let late : Delayed (delay file net) (pinsLastIn file work net) samples (c .before .before .before .before .before .before .before .before .before .before .before .before .before .before .delay .last .0) =
+    rw (latest .1, d) at (c .before .before .before .before .before .before .before .before .before .before .before .before .before .before .delay .ensures) in
     let w = c .before .before .write .ensures in
     (gate-made file net work (s .pre .0) (s .args .hops) _ _ samples _ _ _ g late (c .before .before .before .before .before .before .before .before .before .fill .ensures) (rw (latest .0, d) refl) (c .before .before .before .before .before .last-change .ensures) w, sym (w .settles))
 
@@ -117,14 +117,14 @@ gate-waveform-spec =
     tie.close
     (tie.spec
     latest-pin-requires
-    delay-requires
+    gate-requires
     add-arrival
     add-bound
     add-gate-samples
     slice-aggregate-gate-samples
     gate-samples-requires
     slice-aggregate-delay
-    delay-requires-2
+    delay-requires
     settled-from-requires
     fill-requires
     last-change-requires

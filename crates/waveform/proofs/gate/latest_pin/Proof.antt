@@ -1,74 +1,76 @@
 -- `waveform::gate::latest_pin` meets its contract.
 -- Assumes nothing.
 use Prim.Native.Nat.{_-_, _≤_, _<_}
-use mathlib.Core.Path.{_≡_, refl, ap, sym, _∙_}
+use mathlib.Core.Path.{_≡_, refl, sym, _∙_}
 use native.Mathlib.Omega.{arith}
 use borrow.Author.Needs.{needs}
 use Rattle.laws.specs.Below.{maxBelow}
 use Rattle.laws.proofs.Below.{max-next}
-use Rattle.block.specs.Record.{pin}
+use Rattle.block.proofs.Views.{max-read}
+use Rattle.block.specs.Record.{pinOf}
 use Rattle.waveform.specs.Rows.{arrivalIn, lastIn, latestIn, pinsLastIn}
-use Rattle.waveform.proofs.Rows.{pin-row}
+use Rattle.waveform.proofs.Rows.{read-row}
 use Rattle.waveform.proofs.gate.latest_pin.Statement.{statement}
 use Rattle.waveform.proofs.gate.latest_pin.Tie as tie
 
 abbrev Inv-loop : tie.InvT-loop
-Inv-loop file net work pins arrival₀ last₀ p₀ arrival last p = (p ≤ pins) × (arrival < 256) × (last < 256) × (arrival ≡ maxBelow p (λ q. arrivalIn work (pin file (net .0) q))) × (last ≡ maxBelow p (λ q. lastIn work (pin file (net .0) q)))
+Inv-loop file work gate arrival₀ last₀ p₀ arrival last p = (p ≤ gate .used) × (arrival < 256) × (last < 256) × (arrival ≡ maxBelow p (λ q. arrivalIn work (pinOf gate q))) × (last ≡ maxBelow p (λ q. lastIn work (pinOf gate q)))
 
 abbrev μ-loop : tie.MeasureT-loop
-μ-loop file net work pins arrival₀ last₀ p₀ arrival last p = pins - p
+μ-loop file work gate arrival₀ last₀ p₀ arrival last p = gate .used - p
 
-pin-count-requires : tie.Need-pin-count-requires Inv-loop μ-loop
-pin-count-requires c κs = search needs
+gate-requires : tie.Need-gate-requires Inv-loop μ-loop
+gate-requires c κs = search needs
 
 loop-holds : tie.Need-loop-holds Inv-loop μ-loop
 unfolding maxBelow
 loop-holds c = (omega arith, omega arith, omega arith, refl, refl)
 
-pin-requires : tie.Need-pin-requires Inv-loop μ-loop
-pin-requires c κs = let s = c .before .before .before .before .before in (s .pre .0, omega (arith, s .pre .1 .pins-high, c .before .before .pin-count .ensures))
+mul-source : tie.Need-mul-source Inv-loop μ-loop
+mul-source c = let s = c .before .before .before .before .before in omega (arith, s .pre .1 .pins-high, c .before .before .gate .ensures .used-is)
+
+element-copy-out-source : tie.Need-element-copy-out-source Inv-loop μ-loop
+element-copy-out-source c = let s = c .before .before .before .before .before in omega (arith, s .pre .1 .pins-high, c .before .before .gate .ensures .used-is)
 
 arrival-requires : tie.Need-arrival-requires Inv-loop μ-loop
-arrival-requires c κs = let s = c .before .before .before .before .before .before in let l = c .before .before .loop in rw (c .pin .ensures) (pin-row _ _ _ (l .p) (s .pre .1) (s .pre .2) (omega (arith, c .before .before .before .pin-count .ensures)))
+arrival-requires c κs = let s = c .before .before .before .before .before .before in read-row (c .before .before .before .gate .ensures) (s .pre .1) (s .pre .2) (c .before .before .loop .p) (omega arith)
 
 greater-requires : tie.Need-greater-requires Inv-loop μ-loop
 greater-requires c κs = search needs
 
 last-requires : tie.Need-last-requires Inv-loop μ-loop
-last-requires c κs = let s = c .before .before .before .before .before .before .before .before in let l = c .before .before .before .before .loop in rw (c .before .before .pin .ensures) (pin-row _ _ _ (l .p) (s .pre .1) (s .pre .2) (omega (arith, c .before .before .before .before .before .pin-count .ensures)))
+last-requires c κs = let s = c .before .before .before .before .before .before .before .before in read-row (c .before .before .before .before .before .gate .ensures) (s .pre .1) (s .pre .2) (c .before .before .before .before .loop .p) (omega arith)
 
 greater-requires-2 : tie.Need-greater-requires-2 Inv-loop μ-loop
 greater-requires-2 c κs = search needs
 
 add-p : tie.Need-add-p Inv-loop μ-loop
-add-p c = search needs
+add-p c = let s = c .before .before .before .before .before .before .before .before .before .before in omega (arith, s .pre .1 .pins-high, c .before .before .before .before .before .before .before .gate .ensures .used-is)
 
 loop-less : tie.Need-loop-less Inv-loop μ-loop
 loop-less c = search needs
 
 loop-again : tie.Need-loop-again Inv-loop μ-loop
 loop-again c =
-    let s = c .before .before .before .before .before .before .before .before .before .before in
     let l = c .before .before .before .before .before .before .loop in
-    let source = c .before .before .before .before .pin .ensures in
     let arrival = c .before .before .before .arrival in
-    let last = c .before .last in
-    let arrives : arrival .result ≡ arrivalIn (s .args .work .now) (pin (s .args .file .now) (s .args .net .0) (l .p)) = arrival .ensures .0 ∙ ap (arrivalIn (s .args .work .now)) source in
-    let settles : last .result ≡ lastIn (s .args .work .now) (pin (s .args .file .now) (s .args .net .0) (l .p)) = last .ensures .0 ∙ ap (lastIn (s .args .work .now)) source in (
+    let last = c .before .last in (
       omega arith,
       omega (arith, c .before .before .greater .ensures, arrival .ensures .1),
       omega (arith, c .greater2 .ensures, last .ensures .1),
-      c .before .before .greater .ensures ∙ rw (l .inv .3, arrives) (sym (max-next (l .p) _)),
-      c .greater2 .ensures ∙ rw (l .inv .4, settles) (sym (max-next (l .p) _)),
+      c .before .before .greater .ensures ∙ rw (l .inv .3, arrival .ensures .0) (sym (max-next (l .p) _)),
+      c .greater2 .ensures ∙ rw (l .inv .4, last .ensures .0) (sym (max-next (l .p) _)),
     )
 
 returns : tie.Need-returns Inv-loop μ-loop
 unfolding latestIn pinsLastIn
 returns c =
+    let s = c .before .before .before .before .before in
     let l = c .before .loop in
-    let pins = c .before .before .pin-count .ensures .0 in
-    let e : l .p ≡ c .before .before .pin-count .result = omega arith in
-    (rw (e, pins) at (l .inv .3), rw (e, pins) at (l .inv .4), l .inv .1, l .inv .2)
+    let read = c .before .before .gate .ensures in
+    let e : l .p ≡ c .before .before .gate .result .used = omega arith in
+    let greatest = max-read _ _ _ read (s .pre .1 .pins-high) in
+    (rw e at (l .inv .3) ∙ greatest (arrivalIn (s .args .work .now)), rw e at (l .inv .4) ∙ greatest (lastIn (s .args .work .now)), l .inv .1, l .inv .2)
 
 pub latest-pin-spec : {M : Type 1} → statement M
 latest-pin-spec =
@@ -76,9 +78,10 @@ latest-pin-spec =
     (tie.spec
     Inv-loop
     μ-loop
-    pin-count-requires
+    gate-requires
     loop-holds
-    pin-requires
+    mul-source
+    element-copy-out-source
     arrival-requires
     greater-requires
     last-requires
