@@ -10,6 +10,10 @@ use Rattle.excitation.specs.declared.Excitation.{Excitation}
 use Rattle.excitation.specs.UncertaintySet.{UncertaintySet, _∈_, decode, size}
 use Rattle.block.specs.Record.{File, netCount, isInput, delay, pinCount, pin, rise, fall, allowed}
 
+-- The tick at which an input switches: at tick 0 it has its excitation.
+abbrev pub switchingTick : File → ℕ → ℕ
+switchingTick file net = 0
+
 -- The greatest arrival of a gate's pins, from the arrivals of the nets below it.
 unfoldable pub latestPin : File → List ℕ → ℕ → ℕ
 latestPin file below net = maxBelow (pinCount file net) (λ p. getD below (pin file net p) 0)
@@ -17,7 +21,7 @@ latestPin file below net = maxBelow (pinCount file net) (λ p. getD below (pin f
 -- Document 01's arrival of a net, from the arrivals of the nets below it: 0 for an input; for a gate the greatest arrival of its
 -- pins plus D.
 unfoldable pub arrivalFrom : File → List ℕ → ℕ → ℕ
-arrivalFrom file below net = cond (isInput file net) 0 (latestPin file below net + delay file net)
+arrivalFrom file below net = cond (isInput file net) (switchingTick file net) (latestPin file below net + delay file net)
 
 -- The arrivals of the first n nets, and the arrival of a net.
 unfoldable pub arrivals : File → ℕ → List ℕ

@@ -41,7 +41,7 @@ fn arrival(file: &[u8], net: Net, earlier: &[u8; 1024]) -> usize
     ensures { λ r. ⌜ r ≡ arrivalFrom (now (file .entry)) (take (net .0) (now (earlier .entry))) (net .0) ⌝ }
 {
     if record::kind(file, net) == 1 {
-        return 0;
+        return wide(record::switching_tick(file, net));
     }
     let latest = latest_pin(file, net, earlier);
     latest + record::delay(file, net)

@@ -1,6 +1,7 @@
 // The fields of a record, read through the file's bytes. Each is named as document 01 names it.
 ghost use mathlib.Core.Path.{_≡_};
 ghost use Prim.Native.Nat.{_<_};
+ghost use Rattle.block.specs.Block.{switchingTick};
 ghost use Rattle.block.specs.Record.{HasRecord, byteAt, wordAt, kind, contact, delay, pinCount, pin, rise, fall, peakLh, peakHl, allowed, GateRead};
 use super::Gate;
 use super::Net;
@@ -93,6 +94,14 @@ pub fn allowed(file: &[u8], net: Net) -> usize
     ensures { λ r. ⌜ (r ≡ allowed (now (file .entry)) (net .0)) × (r < 256) ⌝ }
 {
     byte(file, net, 18)
+}
+
+// The tick at which an input switches: every input switches at tick 0.
+pub fn switching_tick(file: &[u8], net: Net) -> u8
+    requires { ⌜ HasRecord (now file) (net .0) ⌝ }
+    ensures { λ r. ⌜ r ≡ switchingTick (now (file .entry)) (net .0) ⌝ }
+{
+    0
 }
 
 // The gate of a net.

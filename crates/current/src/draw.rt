@@ -5,6 +5,7 @@ ghost use lib.ListN.{length};
 ghost use Rattle.current.specs.Words.{Written};
 ghost use Rattle.current.specs.Levels.{Factored};
 ghost use Rattle.current.specs.Runs.{raisedToPulse, raisedTo, RunDrawn};
+use super::Word;
 use super::level::Pulse;
 use super::level::level;
 
@@ -18,7 +19,7 @@ fn greater(a: u32, b: u32) -> u32
 }
 
 // The rise of a pulse that starts at tick `start`, up to before the peak.
-fn draw_rise(row: &mut [u32], pulse: Pulse, start: usize)
+fn draw_rise(row: &mut [Word], pulse: Pulse, start: usize)
     requires { ⌜ (length (now row) ≡ 512) × Factored (pulse .peak) (pulse .rise) (pulse .fall) (pulse .rising) (pulse .falling) × (start < 256) ⌝ }
     ensures { λ _. ⌜ Written start (start + pulse .rise) (raisedToPulse (now (row .entry)) (pulse .peak) (pulse .rise) (pulse .fall) start) (now (row .entry)) (now (row .exit)) ⌝ }
 {
@@ -30,7 +31,7 @@ fn draw_rise(row: &mut [u32], pulse: Pulse, start: usize)
 }
 
 // The fall of a pulse that starts at tick `start`, from after the peak.
-fn draw_fall(row: &mut [u32], pulse: Pulse, start: usize)
+fn draw_fall(row: &mut [Word], pulse: Pulse, start: usize)
     requires { ⌜ (length (now row) ≡ 512) × Factored (pulse .peak) (pulse .rise) (pulse .fall) (pulse .rising) (pulse .falling) × (start < 256) ⌝ }
     ensures { λ _. ⌜ Written (start + (pulse .rise + 1)) (start + (pulse .rise + pulse .fall)) (raisedToPulse (now (row .entry)) (pulse .peak) (pulse .rise) (pulse .fall) start) (now (row .entry)) (now (row .exit)) ⌝ }
 {
@@ -43,7 +44,7 @@ fn draw_fall(row: &mut [u32], pulse: Pulse, start: usize)
 }
 
 // A height from tick `from` to before tick `to`.
-fn draw_level(row: &mut [u32], from: usize, to: usize, height: u32)
+fn draw_level(row: &mut [Word], from: usize, to: usize, height: u32)
     requires { ⌜ (length (now row) ≡ 512) × (from ≤ to) × (to ≤ 512) ⌝ }
     ensures { λ _. ⌜ Written from to (raisedTo (now (row .entry)) height) (now (row .entry)) (now (row .exit)) ⌝ }
 {
@@ -55,7 +56,7 @@ fn draw_level(row: &mut [u32], from: usize, to: usize, height: u32)
 }
 
 // The pulses that start at ticks `first` to `last`. Between the first one's rise and the last one's fall they hold the peak.
-pub fn draw_run(row: &mut [u32], pulse: Pulse, first: usize, last: usize)
+pub fn draw_run(row: &mut [Word], pulse: Pulse, first: usize, last: usize)
     requires { ⌜ (length (now row) ≡ 512) × Factored (pulse .peak) (pulse .rise) (pulse .fall) (pulse .rising) (pulse .falling) × (first ≤ last) × (last < 256) ⌝ }
     ensures { λ _. ⌜ RunDrawn (pulse .peak) (pulse .rise) (pulse .fall) first last (now (row .entry)) (now (row .exit)) ⌝ }
 {

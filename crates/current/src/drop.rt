@@ -7,6 +7,7 @@ ghost use Rattle.current.specs.Current.{dropAt, dropOf};
 ghost use Rattle.current.specs.Drawing.{sheetIn, QuietFrom};
 ghost use Rattle.current.specs.Words.{Written, wordOf};
 ghost use Rattle.current.specs.Sums.{withContact, SumsFit};
+use super::Word;
 
 fn wide_resistance(x: u16) -> u64
     ensures { λ r. ⌜ (r ≡ x) × (r < 65536) ⌝ }
@@ -30,7 +31,7 @@ fn greater(a: u64, b: u64) -> u64
 }
 
 // The part of one contact, whose row starts at word `start`, added to the sums of each tick before `busy`.
-fn add_contact(sums: &mut [u64], resistance: u64, sheet: &[u32], start: usize, busy: usize)
+fn add_contact(sums: &mut [u64], resistance: u64, sheet: &[Word], start: usize, busy: usize)
     requires { ⌜ SumsFit (now sums) resistance (now sheet) start busy ⌝ }
     ensures { λ _. ⌜ Written 0 busy (withContact (now (sums .entry)) resistance (now (sheet .entry)) start) (now (sums .entry)) (now (sums .exit)) ⌝ }
 {
@@ -56,7 +57,7 @@ fn greatest(words: &[u64], n: usize) -> u64
 }
 
 // A node's greatest drop before tick `busy`.
-fn node_drop(table: &[u16], node: usize, sheet: &[u32], busy: usize) -> u64
+fn node_drop(table: &[u16], node: usize, sheet: &[Word], busy: usize) -> u64
     requires { ⌜ (16 * node + 16 ≤ length (now table)) × (length (now sheet) ≡ 8192) × (busy ≤ 512) ⌝ }
     ensures { λ r. ⌜ r ≡ maxBelow busy (dropAt (now (table .entry)) (sheetIn (now (sheet .entry))) node) ⌝ }
 {
@@ -71,7 +72,7 @@ fn node_drop(table: &[u16], node: usize, sheet: &[u32], busy: usize) -> u64
 }
 
 // The drop of a sheet that has no current from tick `busy` on.
-pub fn greatest_drop(table: &[u16], sheet: &[u32], busy: usize) -> u64
+pub fn greatest_drop(table: &[u16], sheet: &[Word], busy: usize) -> u64
     requires { ⌜ QuietFrom busy (now sheet) ⌝ }
     ensures { λ r. ⌜ r ≡ dropOf (now (table .entry)) (sheetIn (now (sheet .entry))) ⌝ }
 {

@@ -6,6 +6,7 @@ ghost use lib.ListN.{length};
 ghost use Rattle.fill.specs.Codes.{Codes};
 ghost use Rattle.current.specs.Levels.{Factored};
 ghost use Rattle.current.specs.Edges.{EdgeBit, Seen, chosen, NextChosen, ChosenUntil, ChosenWithin, ChosenIfSeen, EdgeDrawn, EdgesWithin, EdgesDrawn};
+use super::Word;
 use super::draw;
 use super::level::Pulse;
 
@@ -69,7 +70,7 @@ fn run_end(codes: &[u8], choice: Chosen, from: usize) -> usize
 }
 
 // The pulses of an edge at the chosen ticks, run by run.
-fn draw_edge(row: &mut [u32], pulse: Pulse, codes: &[u8], seen: u8, choice: Chosen)
+fn draw_edge(row: &mut [Word], pulse: Pulse, codes: &[u8], seen: u8, choice: Chosen)
     requires { ⌜ (length (now row) ≡ 512) × Factored (pulse .peak) (pulse .rise) (pulse .fall) (pulse .rising) (pulse .falling) × ChosenWithin (choice .mask) (choice .bit) (now codes) (choice .delay) (choice .stop) × ChosenIfSeen (choice .mask) (choice .bit) (now codes) seen ⌝ }
     ensures { λ _. ⌜ EdgeDrawn (pulse .peak) (pulse .rise) (pulse .fall) (choice .delay) (choice .mask) (choice .bit) (now (codes .entry)) (now (row .entry)) (now (row .exit)) ⌝ }
 {
@@ -87,7 +88,7 @@ fn draw_edge(row: &mut [u32], pulse: Pulse, codes: &[u8], seen: u8, choice: Chos
 // The pulses of both edges, `bit` being that of the edge with the greater peak. They have the same rise and fall, so that at a tick that
 // holds both edges the pulse with the greater peak is nowhere below the other, which is left out.
 pub fn draw_edges(
-    row: &mut [u32],
+    row: &mut [Word],
     pulse: Pulse,
     lower: u32,
     codes: &[u8],

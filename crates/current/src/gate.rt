@@ -4,6 +4,7 @@ ghost use Prim.Native.Nat.{_+_, _≤_, _<_};
 ghost use lib.ListN.{replicate};
 ghost use Rattle.current.specs.Drawing.{Drawable, Drawn};
 ghost use Rattle.current.specs.Edges.{GateCodes, RowDrawn};
+use super::Word;
 use super::edge;
 use super::level;
 use super::level::Pulse;
@@ -24,7 +25,7 @@ fn quiet_from(last: usize, delay: usize, rise: usize, fall: usize) -> usize
 }
 
 // A gate's current, drawn into a row of zeros.
-fn draw_row(file: &[u8], net: Net, codes: &[u8], last: usize, seen: u8, row: &mut [u32])
+fn draw_row(file: &[u8], net: Net, codes: &[u8], last: usize, seen: u8, row: &mut [Word])
     requires { ⌜ GateCodes (now file) (net .0) (now codes) last seen × (now row ≡ replicate 512 0) ⌝ }
     ensures { λ _. ⌜ RowDrawn (now (file .entry)) (net .0) (now (codes .entry)) (now (row .exit)) ⌝ }
 {
@@ -75,7 +76,7 @@ fn draw_row(file: &[u8], net: Net, codes: &[u8], last: usize, seen: u8, row: &mu
 }
 
 // A gate's current added to the sheet. Past tick `last` the gate has no transition. A gate without transitions adds nothing.
-pub fn draw_gate(file: &[u8], net: Net, codes: &[u8], last: usize, sheet: &mut [u32])
+pub fn draw_gate(file: &[u8], net: Net, codes: &[u8], last: usize, sheet: &mut [Word])
     requires { ⌜ Drawable (now file) (net .0) (now codes) last (now sheet) ⌝ }
     ensures { λ _. ⌜ Drawn (now (file .entry)) (net .0) (now (codes .entry)) (now (sheet .entry)) (now (sheet .exit)) ⌝ }
 {
@@ -84,7 +85,7 @@ pub fn draw_gate(file: &[u8], net: Net, codes: &[u8], last: usize, sheet: &mut [
     if seen & edge::BOTH_BITS == 0 {
         return;
     }
-    let mut row = [0u32; 512];
+    let mut row: [Word; 512] = [0; 512];
     draw_row(file, net, codes, last, seen, &mut row);
     let end = quiet_from(last, gate.delay, gate.rise, gate.fall);
     sheet::add_row(sheet, 512 * gate.contact, &row, end);

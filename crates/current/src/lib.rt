@@ -6,6 +6,9 @@ mod gate;
 mod level;
 mod sheet;
 
+// Document 01's word of a sheet, in microamperes.
+pub type Word = u32;
+
 pub use drop::greatest_drop;
 pub use gate::draw_gate;
 pub use sheet::clear;

@@ -3,9 +3,10 @@ ghost use mathlib.Core.Path.{_≡_};
 ghost use Prim.Native.Nat.{_+_};
 ghost use lib.ListN.{length};
 ghost use Rattle.current.specs.Words.{Written, withRow, RowFits, Cleared};
+use super::Word;
 
 // A sheet with no current.
-pub fn clear(sheet: &mut [u32])
+pub fn clear(sheet: &mut [Word])
     requires { ⌜ length (now sheet) ≡ 8192 ⌝ }
     ensures { λ _. ⌜ Cleared (now (sheet .exit)) ⌝ }
 {
@@ -17,7 +18,7 @@ pub fn clear(sheet: &mut [u32])
 }
 
 // A row added to words from place `start` on, n words of it.
-pub fn add_row(words: &mut [u32], start: usize, row: &[u32], n: usize)
+pub fn add_row(words: &mut [Word], start: usize, row: &[Word], n: usize)
     requires { ⌜ RowFits (now words) start (now row) n ⌝ }
     ensures { λ _. ⌜ Written start (start + n) (withRow (now (words .entry)) start (now (row .entry))) (now (words .entry)) (now (words .exit)) ⌝ }
 {

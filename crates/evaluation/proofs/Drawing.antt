@@ -17,7 +17,7 @@ use Rattle.laws.proofs.Turn.{turn-next, turn-is, list-at, list-long, list-next,
 use Rattle.excitation.specs.Excitation.{l, hl, lh}
 use Rattle.excitation.specs.UncertaintySet.{UncertaintySet, member, decode, empty, single, Held, setsIn}
 use Rattle.block.specs.Accepted.{AcceptedFile, GateRecord}
-use Rattle.block.specs.Block.{latestPin, arrivalFrom, arrivals, arrival}
+use Rattle.block.specs.Block.{latestPin, arrivalFrom, arrivals, arrival, switchingTick}
 use Rattle.block.specs.Record.{File, netCount, contact, delay, pinCount, pin, isInput}
 use Rattle.block.proofs.Accepted.{has-record, arrival-at}
 use Rattle.fill.specs.Codes.{setsOf}
@@ -192,7 +192,7 @@ module _ (file : File) (nets inputs : ℕ) (accepted : AcceptedFile file nets in
       sheet-is words (sheetOf (envelope hops) file sets) (done .long)
       (λ i h. done .at i h ∙ ap (λ n. sumBelow n (part file transitions (i / 512) (i % 512))) (sym (accepted .net-count)))
 
-input-arrives : (file : File) (below : List ℕ) (net : ℕ) → isInput file net ≡ true → arrivalFrom file below net ≡ 0
+input-arrives : (file : File) (below : List ℕ) (net : ℕ) → isInput file net ≡ true → arrivalFrom file below net ≡ switchingTick file net
 unfolding arrivalFrom
 input-arrives file below net e = rw e refl
 
@@ -211,13 +211,13 @@ module _ (file : File) (nets inputs : ℕ) (accepted : AcceptedFile file nets in
       (λ net l. let e = part-of-input file (transitionsFrom file hops sets) c t net (accepted .input net (omega arith) .input) in omega arith) in
       omega arith
 
-  pub inputs-evaluated : {given work words : List ℕ} → InputsMade inputs codes given work → Cleared words
+  pub inputs-evaluated : {given work words : List ℕ} → InputsMade file inputs codes given work → Cleared words
       → Evaluating file hops sets inputs work words
   unfolding waveformsIn arrivalsIn waveforms arrivals
   inputs-evaluated {given} {work} {words} made clear = record {
     waves = turn-is (netWaveform (envelope hops) file sets) inputs (waveformIn work 0) (listBelow inputs (waveformIn work)) (list-long inputs (waveformIn work))
         (λ net h. list-at inputs (waveformIn work) net _ h ∙ made .waveform net h hops
-        ∙ ap (inputWaveform (envelope hops) 0) (sym (input-set net (single l) h))
+        ∙ ap (inputWaveform (envelope hops) (switchingTick file net)) (sym (input-set net (single l) h))
         ∙ sym (net-input (envelope hops) file sets _ net (accepted .input net h .input)));
     times = turn-is (arrivalFrom file) inputs 0 (listBelow inputs (arrivalIn work)) (list-long inputs (arrivalIn work))
         (λ net h. list-at inputs (arrivalIn work) net 0 h ∙ made .arrives net h ∙ sym (input-arrives file (inTurn (arrivalFrom file) net) net (accepted .input net h .input)));

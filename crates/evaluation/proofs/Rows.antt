@@ -11,6 +11,8 @@ use borrow.Author.Tests.{ltb-true, ltb-false}
 use borrow.Table.Steps.{cases}
 use Rattle.laws.proofs.Turn.{list-same}
 use Rattle.excitation.specs.UncertaintySet.{decode, empty}
+use Rattle.block.specs.Block.{switchingTick}
+use Rattle.block.specs.Record.{File}
 use Rattle.waveform.specs.Rows.{codeIn, waveformIn, arrivalIn, lastIn, HasRow, SettledRow, OthersKept, InputMade}
 use Rattle.waveform.specs.Waveform.{envelope, inputWaveform}
 use Rattle.waveform.proofs.Waveforms.{waveform-is}
@@ -46,17 +48,17 @@ module _ {net : ℕ} {work after : List ℕ} (kept : OthersKept net work after) 
 
 -- The inputs' waveforms, one after the other.
 
-pub inputs-none : (codes work : List ℕ) → InputsMade 0 codes work work
-inputs-none codes work = record { long = refl; waveform = λ net h. absurd (omega arith); arrives = λ net h. absurd (omega arith); settled = λ net h. absurd (omega arith) }
+pub inputs-none : (file : File) (codes work : List ℕ) → InputsMade file 0 codes work work
+inputs-none file codes work = record { long = refl; waveform = λ net h. absurd (omega arith); arrives = λ net h. absurd (omega arith); settled = λ net h. absurd (omega arith) }
 
-pub inputs-next : (n : ℕ) (codes given work after : List ℕ) → InputsMade n codes given work → InputMade n 0 (getD codes n 0) work after
-    → InputsMade (n + 1) codes given after
-inputs-next n codes given work after made here = record {
+pub inputs-next : (file : File) (n : ℕ) (codes given work after : List ℕ) → InputsMade file n codes given work
+    → InputMade n (switchingTick file n) (getD codes n 0) work after → InputsMade file (n + 1) codes given after
+inputs-next file n codes given work after made here = record {
   long = here .others .long ∙ made .long;
-  waveform = below-more (λ net. (hops : ℕ) → waveformIn after net ≡ inputWaveform (envelope hops) 0 (decode (getD codes net 0))) n
+  waveform = below-more (λ net. (hops : ℕ) → waveformIn after net ≡ inputWaveform (envelope hops) (switchingTick file net) (decode (getD codes net 0))) n
       (λ net h hops. waveform-kept (here .others) net (λ e. omega arith) ∙ made .waveform net h hops)
       (here .waveform);
-  arrives = below-more (λ net. arrivalIn after net ≡ 0) n
+  arrives = below-more (λ net. arrivalIn after net ≡ switchingTick file net) n
       (λ net h. arrival-kept (here .others) net (λ e. omega arith) ∙ made .arrives net h)
       (here .arrives);
   settled = below-more (SettledRow after) n (λ net h. settled-kept (here .others) net (λ e. omega arith) (made .settled net h)) (here .settled);

@@ -6,7 +6,7 @@ use lib.ListN.{length, getD}
 use Rattle.excitation.specs.UncertaintySet.{UncertaintySet, decode, setsIn}
 use Rattle.excitation.specs.declared.Excitation.{Excitation}
 use Rattle.block.specs.Accepted.{AcceptedFile}
-use Rattle.block.specs.Block.{arrivals, quietTick}
+use Rattle.block.specs.Block.{arrivals, quietTick, switchingTick}
 use Rattle.block.specs.Record.{File}
 use Rattle.waveform.specs.Rows.{waveformIn, arrivalIn, arrivalsIn, SettledRow}
 use Rattle.waveform.specs.Waveform.{simulation, envelope, inputWaveform}
@@ -32,10 +32,10 @@ pub record InputCodes (inputs : ℕ) (codes : List ℕ) : Type 0 where
   pub low : (net : ℕ) → net < inputs → getD codes net 0 < 16
 
 -- The buffer once the inputs' waveforms are made.
-pub record InputsMade (inputs : ℕ) (codes work after : List ℕ) : Type 0 where
+pub record InputsMade (file : File) (inputs : ℕ) (codes work after : List ℕ) : Type 0 where
   pub long : length after ≡ length work
-  pub waveform : (net : ℕ) → net < inputs → (hops : ℕ) → waveformIn after net ≡ inputWaveform (envelope hops) 0 (decode (getD codes net 0))
-  pub arrives : (net : ℕ) → net < inputs → arrivalIn after net ≡ 0
+  pub waveform : (net : ℕ) → net < inputs → (hops : ℕ) → waveformIn after net ≡ inputWaveform (envelope hops) (switchingTick file net) (decode (getD codes net 0))
+  pub arrives : (net : ℕ) → net < inputs → arrivalIn after net ≡ switchingTick file net
   pub settled : (net : ℕ) → net < inputs → SettledRow after net
 
 -- What an evaluation is given: an accepted file, the codes of the inputs' sets, a hop limit, a sheet and a work buffer.

@@ -1,6 +1,7 @@
 // Evaluation of a block whose inputs have given sets: one engine for the envelope and the simulation.
 ghost use mathlib.Core.Path.{_≡_};
-ghost use Prim.Native.Nat.{_+_, _-_, _≤_, _<_};
+ghost use Prim.Native.Nat.{_+_, _-_, _*_, _≤_, _<_};
+ghost use lib.ListN.{length};
 ghost use Rattle.excitation.specs.UncertaintySet.{setsIn};
 ghost use Rattle.block.specs.Record.{HasRecord, delay, rise, fall};
 ghost use Rattle.block.specs.Block.{arrivals, quietTick};
@@ -9,7 +10,9 @@ ghost use Rattle.waveform.specs.Rows.{HasRow, arrivalIn, arrivalsIn};
 ghost use Rattle.evaluation.specs.Evaluation.{HasRows, InputCodes, InputsMade, Given, BlockDrawn, Evaluated};
 use block::Net;
 use block::Refusal;
+use block::record;
 use block::view;
+use current::Word;
 
 pub mod arguments;
 
@@ -25,14 +28,15 @@ pub enum CurrentsAnswer {
     Refused(Refusal),
 }
 
-// Makes the waveforms of the inputs, which switch at tick 0.
-fn make_inputs(codes: &[u8], inputs: usize, work: &mut [u8])
-    requires { ⌜ InputCodes inputs (now codes) × HasRows (now work) inputs ⌝ }
-    ensures { λ _. ⌜ InputsMade inputs (now (codes .entry)) (now (work .entry)) (now (work .exit)) ⌝ }
+// Makes the waveforms of the inputs.
+fn make_inputs(file: &[u8], codes: &[u8], inputs: usize, work: &mut [u8])
+    requires { ⌜ (20 * inputs ≤ length (now file)) × InputCodes inputs (now codes) × HasRows (now work) inputs ⌝ }
+    ensures { λ _. ⌜ InputsMade (now (file .entry)) inputs (now (codes .entry)) (now (work .entry)) (now (work .exit)) ⌝ }
 {
     let mut net: usize = 0;
     while net < inputs {
-        waveform::input_waveform(work, Net(net), codes[net], 0);
+        let switching = record::switching_tick(file, Net(net));
+        waveform::input_waveform(work, Net(net), codes[net], switching);
         net += 1;
     }
 }
@@ -44,7 +48,7 @@ fn draw(
     inputs: usize,
     codes: &[u8],
     hops: usize,
-    sheet: &mut [u32],
+    sheet: &mut [Word],
     work: &mut [u8],
 )
     requires { ⌜ Given (now file) nets inputs (now codes) hops (now sheet) (now work) ⌝ }
@@ -53,7 +57,7 @@ fn draw(
     let joins = excitation::joins();
     let mut sets = [0u8; 256];
     current::clear(sheet);
-    make_inputs(codes, inputs, work);
+    make_inputs(file, codes, inputs, work);
     let mut net = inputs;
     while net < nets {
         let last = waveform::gate_waveform(file, Net(net), &joins, hops, work, &mut sets);
@@ -94,7 +98,7 @@ pub fn evaluate(
     codes: &[u8],
     hops: usize,
     table: &[u16],
-    sheet: &mut [u32],
+    sheet: &mut [Word],
     work: &mut [u8],
 ) -> Currents
     requires { ⌜ Given (now file) nets inputs (now codes) hops (now sheet) (now work) ⌝ }

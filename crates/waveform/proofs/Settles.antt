@@ -20,13 +20,13 @@ use Rattle.excitation.specs.Excitation.{TwoLevel, l, hl, lh, levelsOf}
 use Rattle.excitation.specs.UncertaintySet.{UncertaintySet, member, empty, single, joinSets, invertSet, heldBeforeSet, heldAfterSet, Held}
 use Rattle.excitation.proofs.Held.{join-held, invert-held, before-held, after-held}
 use Rattle.block.specs.Accepted.{AcceptedFile, GateRecord}
-use Rattle.block.specs.Block.{arrivalFrom, arrivals, arrival, latestPin}
+use Rattle.block.specs.Block.{arrivalFrom, arrivals, arrival, latestPin, switchingTick}
 use Rattle.block.specs.Gate.{gateValue}
 use Rattle.block.specs.Kind.{kindOf, ruleOf}
 use Rattle.block.specs.Record.{File, kind, delay, pinCount, pin, isInput}
 use Rattle.block.proofs.Accepted.{arrival-at}
 use Rattle.fill.proofs.Filled.{filled-long, filled-not-before, filled-not-after, filled-settled}
-use Rattle.waveform.specs.Waveform.{Waveform, earlier, envelope, switchingTick, inputWaveform, gateFrom, pinWaveform, gateAt, gateWaveform, netWaveform, waveforms}
+use Rattle.waveform.specs.Waveform.{Waveform, earlier, envelope, inputWaveform, gateFrom, pinWaveform, gateAt, gateWaveform, netWaveform, waveforms}
 use Rattle.waveform.proofs.Waveforms.{gate-same, net-input, net-gate}
 
 -- A waveform that switches only from tick `first` to tick `last`, and stays the same after it.

@@ -13,11 +13,12 @@ use Rattle.excitation.specs.Excitation.{TwoLevel, l, levelsOf, joinExcitations,
 use Rattle.excitation.specs.UncertaintySet.{UncertaintySet, single, joinSets, invertSet, heldBeforeSet, heldAfterSet}
 use Rattle.excitation.specs.declared.Excitation.{Excitation}
 use Rattle.excitation.proofs.OneMember.{join-single, each-single}
+use Rattle.block.specs.Block.{switchingTick}
 use Rattle.block.specs.Gate.{gateValue}
 use Rattle.block.specs.Kind.{kindOf, ruleOf}
 use Rattle.block.specs.Record.{File, kind, delay, pinCount, pin, isInput}
 use Rattle.fill.proofs.Filled.{filled-none}
-use Rattle.waveform.specs.Waveform.{Waveform, earlier, simulation, envelope, switchingTick, inputWaveform, gateFrom, pinWaveform, gateAt, gateWaveform, netWaveform, waveforms}
+use Rattle.waveform.specs.Waveform.{Waveform, earlier, simulation, envelope, inputWaveform, gateFrom, pinWaveform, gateAt, gateWaveform, netWaveform, waveforms}
 use Rattle.waveform.proofs.Waveforms.{waveform-is, net-input, net-gate}
 
 -- The waveform of the sets whose one member is what a waveform has.

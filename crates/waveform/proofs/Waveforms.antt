@@ -8,10 +8,11 @@ use native.Mathlib.Omega.{arith}
 use lib.ListN.{getD}
 use Rattle.laws.specs.Turn.{listBelow}
 use Rattle.laws.proofs.Turn.{list-same}
+use Rattle.block.specs.Block.{switchingTick}
 use Rattle.block.specs.Gate.{gateValue}
 use Rattle.block.specs.Kind.{kindOf, ruleOf}
 use Rattle.block.specs.Record.{File, kind, pinCount, isInput}
-use Rattle.waveform.specs.Waveform.{Waveform, Values, switchingTick, inputWaveform, gateFrom, gateWaveform, netWaveform}
+use Rattle.waveform.specs.Waveform.{Waveform, Values, inputWaveform, gateFrom, gateWaveform, netWaveform}
 
 -- A waveform is what it has before tick 0 and at its ticks.
 pub waveform-is : {A : Type 0} (v w : Waveform A) → v .before ≡ w .before → v .ticks ≡ w .ticks → v ≡ w

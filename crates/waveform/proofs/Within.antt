@@ -16,13 +16,13 @@ use Rattle.excitation.specs.UncertaintySet.{UncertaintySet, _∈_, empty, singl
 use Rattle.excitation.specs.declared.Excitation.{Excitation}
 use Rattle.excitation.proofs.OneMember.{member-single}
 use Rattle.excitation.proofs.Sets.{each-contains, same-self}
-use Rattle.block.specs.Block.{Choice}
+use Rattle.block.specs.Block.{Choice, switchingTick}
 use Rattle.block.specs.Kind.{kindOf, ruleOf}
 use Rattle.block.specs.Record.{File, kind, delay, pinCount, pin, isInput}
 use Rattle.block.proofs.Gates.{gate-contains}
 use Rattle.fill.specs.Fill.{filled}
 use Rattle.fill.proofs.Filled.{filled-long, filled-adds}
-use Rattle.waveform.specs.Waveform.{Waveform, earlier, simulation, envelope, switchingTick, inputWaveform, gateFrom, pinWaveform, gateAt, gateWaveform, netWaveform, waveforms}
+use Rattle.waveform.specs.Waveform.{Waveform, earlier, simulation, envelope, inputWaveform, gateFrom, pinWaveform, gateAt, gateWaveform, netWaveform, waveforms}
 
 pub record Within (v : Waveform Excitation) (w : Waveform UncertaintySet) : Type 0 where
   pub before : v .before ∈ w .before

@@ -9,6 +9,7 @@ use Rattle.laws.specs.Turn.{inTurn, listBelow}
 use Rattle.excitation.specs.Excitation.{TwoLevel, l, same, joinExcitations, invertExcitation, heldBefore, heldAfter}
 use Rattle.excitation.specs.UncertaintySet.{UncertaintySet, member, single, joinSets, invertSet, heldBeforeSet, heldAfterSet}
 use Rattle.excitation.specs.declared.Excitation.{Excitation}
+use Rattle.block.specs.Block.{switchingTick}
 use Rattle.block.specs.Gate.{gateValue}
 use Rattle.block.specs.Kind.{kindOf, ruleOf}
 use Rattle.block.specs.Record.{File, kind, delay, pinCount, pin, isInput}
@@ -64,10 +65,6 @@ envelope hops = record {
   fill = filled hops;
   allows = member;
 }
-
--- The tick at which an input switches.
-abbrev pub switchingTick : File → ℕ → ℕ
-switchingTick file net = 0
 
 module _ (𝓥 : Values) where
   open Values 𝓥 using (Value, none, join, invert, before, after, fill)

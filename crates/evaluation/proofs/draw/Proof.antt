@@ -25,7 +25,7 @@ clear-requires : tie.Need-clear-requires Inv-loop μ-loop
 clear-requires c κs = c .before .before .before .before .before .before .pre .sheet-long
 
 make-inputs-requires : tie.Need-make-inputs-requires Inv-loop μ-loop
-make-inputs-requires c κs = let g = c .before .before .before .before .before .before .before .before .before .before .pre in (g .codes-low, record { whole = omega (arith, g .rows .whole, g .accepted .inputs-first); numbered = omega (arith, g .rows .numbered, g .accepted .inputs-first) })
+make-inputs-requires c κs = let g = c .before .before .before .before .before .before .before .before .before .before .pre in (omega (arith, g .accepted .whole, g .accepted .inputs-first), g .codes-low, record { whole = omega (arith, g .rows .whole, g .accepted .inputs-first); numbered = omega (arith, g .rows .numbered, g .accepted .inputs-first) })
 
 loop-holds : tie.Need-loop-holds Inv-loop μ-loop
 loop-holds c =

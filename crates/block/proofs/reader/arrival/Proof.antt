@@ -10,9 +10,15 @@ use Rattle.block.proofs.reader.arrival.Statement.{statement}
 kind-requires : tie.Need-kind-requires
 kind-requires c κs = search needs
 
+switching-tick-requires : tie.Need-switching-tick-requires
+switching-tick-requires c κs = search needs
+
+wide-requires : tie.Need-wide-requires
+wide-requires c κs = search needs
+
 returns : tie.Need-returns
 unfolding arrivalFrom
-returns c = rw (is-input _ _ (sym (c .before .kind .ensures .0) ∙ c .if1 .taken)) refl
+returns c = rw (is-input _ _ (sym (c .before .before .before .kind .ensures .0) ∙ c .before .before .if1 .taken)) (c .wide .ensures .0 ∙ c .before .switching-tick .ensures)
 
 latest-pin-requires : tie.Need-latest-pin-requires
 latest-pin-requires c κs = (search needs, gate-record _ _ (c .before .before .before .pre .1) (is-gate _ _ (λ e. c .if1 .left (c .before .kind .ensures .0 ∙ e))))
@@ -33,4 +39,4 @@ returns-2 c =
 pub arrival-spec : {M : Type 1} → statement M
 arrival-spec =
     tie.close
-    (tie.spec kind-requires returns latest-pin-requires delay-requires add-result returns-2)
+    (tie.spec kind-requires switching-tick-requires wide-requires returns latest-pin-requires delay-requires add-result returns-2)
