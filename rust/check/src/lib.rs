@@ -6,6 +6,7 @@ pub mod implementation;
 pub mod kind;
 pub mod measure;
 pub mod pattern;
+pub mod repository;
 pub mod sample;
 pub mod second;
 pub mod soak;
