@@ -10,3 +10,4 @@ pub mod repository;
 pub mod sample;
 pub mod second;
 pub mod soak;
+pub mod trace;

@@ -33,3 +33,12 @@ pub fn files(folder: impl AsRef<Path>, extensions: &[&str]) -> Vec<PathBuf> {
     files.sort();
     files
 }
+
+/// Whether a line of a definitions' or a proofs' file declares the name: as a definition, a law, a record
+/// or a field, whatever marks stand before it.
+pub fn declares(line: &str, name: &str) -> bool {
+    const MARKS: [&str; 5] = ["unfoldable", "abbrev", "pub", "record", "data"];
+    let mut words = line.split_whitespace();
+    let before = words.by_ref().find(|word| !MARKS.contains(word));
+    before == Some(name) && words.any(|word| word == ":")
+}

@@ -9,7 +9,7 @@
 use std::collections::{BTreeMap, BTreeSet};
 use std::path::Path;
 
-use check::repository::{files, text};
+use check::repository::{declares, files, text};
 
 /// The crates inside which the search may not look.
 const INSIDE: [&str; 6] = [
@@ -285,14 +285,6 @@ fn origin(name: &str, text: &str, cited: &BTreeSet<(String, String)>) -> Option<
     let defined = code.lines().any(|line| declares(line, name));
     let own = defined.then(|| "search".to_string());
     from.map(|(module, _)| module.clone()).or(own)
-}
-
-/// Whether a line declares the name, whatever marks stand before it.
-fn declares(line: &str, name: &str) -> bool {
-    let mut words = line
-        .split_whitespace()
-        .skip_while(|word| ["unfoldable", "abbrev", "pub"].contains(word));
-    words.next() == Some(name) && words.any(|word| word == ":")
 }
 
 /// Which of the names of the crates inside which the search may not look a text unfolds, or any that it
