@@ -75,17 +75,9 @@ impl Searched {
 
     /// The arguments as the search left them, with an empty case store.
     pub fn without_the_store(&self) -> Arguments {
-        let lent = &self.lent;
         Arguments {
-            file: lent.file.clone(),
-            hop_limit: lent.hop_limit,
-            table: lent.table.clone(),
-            ratio: lent.ratio,
-            budget: lent.budget,
-            sheet: lent.sheet.clone(),
-            pattern: lent.pattern.clone(),
-            work: lent.work.clone(),
             store: Vec::new(),
+            ..self.lent.clone()
         }
     }
 

@@ -25,7 +25,6 @@ const INSIDE: [&str; 6] = [
 struct Named {
     module: &'static str,
     names: &'static [&'static str],
-    #[allow(dead_code)]
     why: &'static str,
 }
 
@@ -34,7 +33,7 @@ const CITED: [Named; 18] = [
     Named {
         module: "evaluation.specs.Evaluation",
         names: &["simulatedSheet", "envelopeSheet"],
-        why: "The sheets that the promises of Simulate and Envelope speak of; the search is defined over their drops.",
+        why: "The sheets of Simulate's and Envelope's promises, whose drops the search is over.",
     },
     Named {
         module: "evaluation.specs.Evaluation",
@@ -69,8 +68,17 @@ const CITED: [Named; 18] = [
     Named {
         module: "evaluation.specs.Arguments",
         names: &[
-            "hopsRight", "tableRight", "ratioRight", "hopsCheck", "tableCheck", "ratioCheck", "budgetCheck",
-            "sheetCheck", "patternCheck", "workCheck", "storeCheck",
+            "hopsRight",
+            "tableRight",
+            "ratioRight",
+            "hopsCheck",
+            "tableCheck",
+            "ratioCheck",
+            "budgetCheck",
+            "sheetCheck",
+            "patternCheck",
+            "workCheck",
+            "storeCheck",
         ],
         why: "Checks 11 to 15, which Search makes too.",
     },
@@ -102,7 +110,7 @@ const CITED: [Named; 18] = [
     Named {
         module: "current.specs.Current",
         names: &["Sheet", "sheetWords", "dropOf"],
-        why: "A sheet as a function, as words of a buffer, and its drop: all three shut or without content.",
+        why: "The type of a sheet, its words in a buffer and its drop, the last two shut.",
     },
     Named {
         module: "current.specs.Words",
@@ -393,7 +401,11 @@ fn search_cites_what_is_listed() {
             let mut modules = entry.module.split(", ");
             let used =
                 modules.any(|module| cited.contains_key(&(module.to_string(), name.to_string())));
-            assert!(used, "{} {name} is cited no more", entry.module);
+            assert!(
+                used,
+                "{} {name} is cited no more: {}",
+                entry.module, entry.why
+            );
         }
     }
 }
@@ -414,35 +426,41 @@ fn search_unfolds_what_is_listed() {
     for entry in &UNFOLDED {
         for name in entry.names {
             let used = seen.contains(&(entry.module.to_string(), name.to_string()));
-            assert!(used, "{} {name} is unfolded no more", entry.module);
+            assert!(
+                used,
+                "{} {name} is unfolded no more: {}",
+                entry.module, entry.why
+            );
         }
     }
 }
 
-/// The marks on the definition of a name in a module of a crate's specs.
+/// The text of a module of definitions or laws; code and what it declares has none.
+fn module_text(module: &str) -> Option<String> {
+    let in_code = module.contains("declared") || module.contains(':');
+    let path = format!("crates/{}.antt", module.replace('.', "/"));
+    (!in_code).then(|| text(path))
+}
+
+/// The marks on the definition of a name in a module.
 fn marks(module: &str, name: &str) -> Option<String> {
-    // What code declares has no marks.
-    if module.contains("declared") || module.contains(':') {
-        return None;
-    }
-    let text = text(format!("crates/{}.antt", module.replace('.', "/")));
+    let text = module_text(module)?;
     let line = text.lines().find(|line| declares(line, name))?;
-    line.split(name)
-        .next()
-        .map(|marks| marks.trim().to_string())
+    let (marks, _) = line.split_once(name)?;
+    Some(marks.trim().to_string())
 }
 
 #[test]
 fn abbreviations_show_nothing_inside() {
     for entry in &CITED {
         for name in entry.names {
-            let marks = entry
-                .module
-                .split(", ")
-                .find_map(|module| marks(module, name));
-            let opens = marks.is_some_and(|marks| marks.contains("abbrev"));
+            let marks = marks(entry.module, name).unwrap_or_default();
             let listed = ABBREVIATIONS.iter().any(|(names, _)| names.contains(name));
-            assert_eq!(opens, listed, "{} {name}", entry.module);
+            assert_eq!(marks.contains("abbrev"), listed, "{name}");
+        }
+        // A definition that unfolds others would open them with itself.
+        if let (true, Some(text)) = (entry.module.contains(".specs."), module_text(entry.module)) {
+            assert_eq!(unfolded(&text), BTreeSet::new(), "{}", entry.module);
         }
     }
     for shut in ["sheetOf", "sheetWords", "dropOf"] {
