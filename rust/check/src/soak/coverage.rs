@@ -62,8 +62,8 @@ pub struct Coverage {
     pub blocks: u64,
     /// The time of all blocks.
     pub elapsed: Duration,
-    /// The longest time of a block.
-    pub longest: Duration,
+    /// The longest time of a block, and the block's number.
+    pub longest: (Duration, u64),
     /// Patterns that were simulated and held against a search, but for those handed over.
     pub patterns: u64,
     /// Cases, in the stores at the end, whose upper number is their parent's and not their own.
@@ -158,12 +158,10 @@ fn write_answers(f: &mut fmt::Formatter, answers: &[[u64; 17]; 4]) -> fmt::Resul
 
 impl fmt::Display for Coverage {
     fn fmt(&self, f: &mut fmt::Formatter) -> fmt::Result {
-        let [elapsed, longest] = [self.elapsed, self.longest].map(|time| time.as_secs_f64());
-        writeln!(
-            f,
-            "blocks    {} in {elapsed:.1} s, the longest {longest:.2} s",
-            self.blocks
-        )?;
+        let (blocks, elapsed) = (self.blocks, self.elapsed.as_secs_f64());
+        let (longest, number) = (self.longest.0.as_secs_f64(), self.longest.1);
+        write!(f, "blocks    {blocks} in {elapsed:.1} s, ")?;
+        writeln!(f, "the longest {longest:.2} s (block {number})")?;
         writeln!(f, "records   {}", classes(&SIZES, &self.sizes))?;
         write_answers(f, &self.answers)?;
         writeln!(f, "inputs    {}", classes(&INPUTS, &self.inputs))?;

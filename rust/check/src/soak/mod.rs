@@ -48,7 +48,8 @@ pub fn soak(
         }
         let difference = soak_block(pair, seed, number, &mut coverage);
         coverage.elapsed = start.elapsed();
-        coverage.longest = coverage.longest.max(coverage.elapsed - before);
+        let spent = coverage.elapsed - before;
+        coverage.longest = coverage.longest.max((spent, number));
         if difference.is_some() {
             return (coverage, difference);
         }
