@@ -11,12 +11,17 @@ use baseline::fast;
 use check::implementation::{Implementation, LIBRARY, SECOND};
 use check::measure::{compare, compare_searches, full_blocks};
 use check::sample::{Arguments, Random};
-use zimgurav::{Currents, Found, Outcome, Refusal};
+use zimgurav::{Counts, Currents, Found, Outcome, Refusal};
 
-const YARDSTICK: Implementation = Implementation::new("yardstick", envelope, simulate, search);
+const YARDSTICK: Implementation =
+    Implementation::new("yardstick", read, envelope, simulate, search);
 
 /// The budgets that searches are timed with.
 const BUDGETS: [u64; 4] = [50, 200, 800, 10_000];
+
+fn read(file: &[u8]) -> Result<Counts, Refusal> {
+    fast::read(file).map(counts).map_err(refusal)
+}
 
 fn envelope(
     file: &[u8],
@@ -56,6 +61,14 @@ fn search(
         file, hop_limit, table, ratio, budget, sheet, pattern, work, store,
     );
     answer.map(found).map_err(refusal)
+}
+
+/// The yardstick's answer to Read, in the library's type.
+fn counts(counts: baseline::Counts) -> Counts {
+    Counts {
+        nets: counts.nets.into(),
+        inputs: counts.inputs.into(),
+    }
 }
 
 /// The yardstick's answer to Envelope and Simulate, in the library's type.

@@ -1,8 +1,11 @@
-//! Implementations of Envelope, Simulate and Search, to be compared with each other.
+//! Implementations of Read, Envelope, Simulate and Search, to be compared with each other.
 
 use crate::sample::Arguments;
 use crate::second;
-use zimgurav::{Currents, Found, Refusal};
+use zimgurav::{Counts, Currents, Found, Refusal};
+
+/// What is called Read: the file.
+pub type Read = fn(&[u8]) -> Result<Counts, Refusal>;
 
 /// What is called Envelope: file, hop limit, table, sheet and work buffer.
 pub type Envelope = fn(&[u8], u64, &[u16], &mut [u32], &mut [u8]) -> Result<Currents, Refusal>;
@@ -24,10 +27,11 @@ pub type Search = fn(
     &mut [u8],
 ) -> Result<Found, Refusal>;
 
-/// One implementation of the three operations.
+/// One implementation of the four operations.
 #[derive(Clone, Copy)]
 pub struct Implementation {
     pub name: &'static str,
+    read: Read,
     envelope: Envelope,
     simulate: Simulate,
     search: Search,
@@ -39,28 +43,41 @@ pub type Operation<Answer> = fn(&Implementation, &mut Arguments) -> Result<Answe
 /// The proved library.
 pub const LIBRARY: Implementation = Implementation::new(
     "library",
+    zimgurav::read,
     zimgurav::envelope,
     zimgurav::simulate,
     zimgurav::search,
 );
 
 /// The second implementation.
-pub const SECOND: Implementation =
-    Implementation::new("second", second::envelope, second::simulate, second::search);
+pub const SECOND: Implementation = Implementation::new(
+    "second",
+    second::read,
+    second::envelope,
+    second::simulate,
+    second::search,
+);
 
 impl Implementation {
     pub const fn new(
         name: &'static str,
+        read: Read,
         envelope: Envelope,
         simulate: Simulate,
         search: Search,
     ) -> Self {
         Implementation {
             name,
+            read,
             envelope,
             simulate,
             search,
         }
+    }
+
+    /// Read with the file.
+    pub fn read(&self, arguments: &mut Arguments) -> Result<Counts, Refusal> {
+        (self.read)(&arguments.file)
     }
 
     /// Envelope with those of the arguments that it takes.

@@ -2,9 +2,10 @@
 
 use std::fmt::Debug;
 
+use check::comparison;
 use check::implementation::{Implementation, Operation, LIBRARY, SECOND};
 use check::measure::full_blocks;
-use check::sample::{damage, store_length, Arguments, Random, Record, Shape};
+use check::sample::{damage, noise, spoil, Arguments, Random, Record, Shape};
 use check::second;
 use zimgurav::{read, Counts, Outcome, Refusal};
 
@@ -50,16 +51,6 @@ fn random_block(random: &mut Random) -> Vec<u8> {
     file
 }
 
-/// Bytes with no plan, of which every other file begins as an input does.
-fn noise(random: &mut Random) -> Vec<u8> {
-    let length = random.pick(&[1, 20]) * random.below(40);
-    let mut file: Vec<u8> = (0..length).map(|_| random.byte(0, 255)).collect();
-    if let (Some(kind), 0) = (file.first_mut(), random.below(2)) {
-        *kind = 1;
-    }
-    file
-}
-
 fn random_file(random: &mut Random) -> Vec<u8> {
     if random.below(64) == 0 {
         return noise(random);
@@ -101,32 +92,6 @@ fn block_of_any_size(random: &mut Random) -> Vec<Record> {
     shape.block(random)
 }
 
-/// Makes a call fail, mostly, in one of the ways that the arguments can be wrong.
-fn spoil(random: &mut Random, arguments: &mut Arguments) {
-    match random.below(11) {
-        0 => damage(random, &mut arguments.file),
-        1 => arguments.hop_limit = random.pick(&[0, 17, 1 << 32, u64::MAX]),
-        2 => arguments.table.truncate(random.pick(&[0, 1, 15, 17, 255])),
-        3 => arguments.sheet.resize(random.pick(&[0, 8191, 8193]), 1),
-        4 => arguments.pattern.resize(random.pick(&[0, 63, 65]), 1),
-        5 => arguments
-            .work
-            .truncate(random.below(8 * arguments.file.len() + 1)),
-        6 => arguments.ratio = random.pick(&[0, 999, 10_001, 1 << 32, u64::MAX]),
-        7 => arguments.budget = random.pick(&[10_000, 10_001, 1 << 32, u64::MAX]),
-        8 => {
-            let least = store_length(arguments.budget.min(60));
-            arguments.store.truncate(random.pick(&[0, 71, least - 1]));
-        }
-        _ => {
-            let net = random.pick(&[0, 1, 5, 63]);
-            if let Some(byte) = arguments.pattern.get_mut(net) {
-                *byte = random.byte(0, 5);
-            }
-        }
-    }
-}
-
 /// Random accepted arguments, of which some are spoilt.
 fn random_arguments(random: &mut Random) -> Arguments {
     let block = block_of_any_size(random);
@@ -137,23 +102,16 @@ fn random_arguments(random: &mut Random) -> Arguments {
     arguments
 }
 
-/// Makes a call in both implementations: the answers and all that was lent are the same, but for
-/// what an accepted call leaves in the work buffer. A refusal changes nothing.
+/// Makes a call in both implementations, which have to agree.
 fn compare<Answer: Copy + Debug + PartialEq>(
     call: Operation<Answer>,
     arguments: &Arguments,
     turn: usize,
 ) -> Result<Answer, Refusal> {
-    let (mut library, mut second) = (arguments.clone(), arguments.clone());
-    let answer = call(&LIBRARY, &mut library);
-    assert_eq!(answer, call(&SECOND, &mut second), "call {turn}");
-    if answer.is_ok() {
-        library.work.clone_from(&second.work);
-        assert!(library == second, "the buffers differ, call {turn}");
-    } else {
-        assert!(library == *arguments, "a buffer was changed, call {turn}");
+    match comparison::compare(&[LIBRARY, SECOND], call, arguments) {
+        Ok(compared) => compared.answer,
+        Err(difference) => panic!("call {turn}: {difference}"),
     }
-    answer
 }
 
 /// Counts the accepted calls and the refusals by their numbers.
@@ -207,20 +165,13 @@ fn random_simulations() {
     }
 }
 
-/// A random block for Search: mostly small, since a search makes many evaluations, and mostly such
-/// that the envelope is above every drop, so that there is something to split.
+/// A random block for Search: mostly small, since a search makes many evaluations.
 fn block_to_search(random: &mut Random) -> Vec<Record> {
-    if random.below(8) == 0 {
+    let shape = if random.below(8) == 0 {
         let records = 1 + random.below(200);
-        return Shape::random(random, records).block(random);
-    }
-    let (few, any) = (1 + random.below(6), 1 + random.below(16));
-    let shape = Shape {
-        inputs: random.pick(&[few, few, few, any]),
-        gates: 4 + random.below(36),
-        reach: random.pick(&[4, 16, 1024]),
-        delay: random.pick(&[1, 3, 6]),
-        slope: random.pick(&[1, 4, 20]),
+        Shape::random(random, records)
+    } else {
+        Shape::to_search(random)
     };
     shape.block(random)
 }

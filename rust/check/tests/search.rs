@@ -2,12 +2,11 @@
 //! answers and buffers are written from document 01, and both the library and the second implementation
 //! must give them.
 
+use check::agreement::Searched;
 use check::implementation::{LIBRARY, SECOND};
 use check::kind::{AND, BUF, INPUT, NOT, XOR};
 use check::pattern::{H, HL, L, LH};
-use check::sample::{
-    self, gate, input, patterns, peaks, silent, Arguments, Random, Record, Shape,
-};
+use check::sample::{self, gate, input, patterns, peaks, silent, Arguments, Random, Record, Shape};
 use zimgurav::{Found, Outcome};
 
 /// The cases in a store: the sets of each one's inputs, and its upper number.
@@ -66,6 +65,15 @@ fn finds(arguments: &Arguments, expected: &Expected) {
             let (is, not) = (lent.sheet[word], after.sheet[word]);
             panic!("{name}: {is} instead of {not} at word {word} of the sheet");
         }
+    }
+}
+
+/// The library's search with these arguments, which it accepts.
+fn searched(mut arguments: Arguments) -> Searched {
+    let found = LIBRARY.search(&mut arguments).expect("accepted");
+    Searched {
+        lent: arguments,
+        found,
     }
 }
 
@@ -540,32 +548,13 @@ mod bounds {
         finds(&arguments.with_budget(1), &exact);
     }
 
-    /// The trap of trusting a child to be below its parent. With two hops net 11 may rise at ticks 2,
-    /// 4 to 8 and 10, and tick 3 is filled. Where net 1 is l, it may rise at ticks 2, 8 and 10, and
-    /// tick 9 is filled, at which nets 13 and 14 draw 200. The sheet has no cap.
+    /// The trap of trusting a child to be below its parent: 210 where net 1 is l, 200 for the whole
+    /// frame. The sheet has no cap.
     #[test]
     fn are_capped_by_the_parent() {
-        let delayed = |net, delay| silent(gate(BUF, &[net]), delay);
-        let block = [
-            input(1 + 8),
-            input(1 + 8),
-            input(15),
-            delayed(0, 1),
-            delayed(0, 7),
-            delayed(0, 9),
-            delayed(1, 2),
-            delayed(1, 3),
-            delayed(1, 4),
-            delayed(1, 5),
-            silent(gate(XOR, &[6, 7, 8, 9]), 1),
-            peaks(gate(XOR, &[3, 4, 5, 10]), [10, 0]),
-            delayed(2, 8),
-            peaks(gate(BUF, &[12]), [100, 0]),
-            peaks(gate(NOT, &[12]), [100, 0]),
-        ];
         let arguments = Arguments {
             hop_limit: 2,
-            ..Arguments::new(&block)
+            ..Arguments::new(&sample::block_with_a_cap())
         };
         let whole = Expected {
             outcome: Outcome::Spent,
@@ -583,7 +572,9 @@ mod bounds {
             sheet: &[0, 0, 10, 10, 10, 10, 10, 10, 10, 210, 10],
             ..whole
         };
-        finds(&arguments.with_budget(1), &split);
+        let arguments = arguments.with_budget(1);
+        finds(&arguments, &split);
+        assert_eq!(searched(arguments).capped_cases(&LIBRARY), Ok(1));
     }
 
     /// Net 1 joins net 0 with itself, which draws in the envelope alone. No ratio reaches from 0.
@@ -704,78 +695,11 @@ mod buffers {
 mod agreement {
     use super::*;
 
-    /// A search that was made: the arguments as it left them and its answer.
-    struct Searched {
-        lent: Arguments,
-        found: Found,
-    }
-
-    impl Searched {
-        fn new(mut arguments: Arguments) -> Searched {
-            let found = LIBRARY.search(&mut arguments).expect("accepted");
-            Searched {
-                lent: arguments,
-                found,
-            }
-        }
-
-        /// The outcome is the word for the bounds, and spent comes with the whole budget.
-        fn has_the_right_outcome(&self) {
-            let Found {
-                upper,
-                lower,
-                splits,
-                ..
-            } = self.found;
-            let Arguments { ratio, budget, .. } = self.lent;
-            let expected = if upper == lower {
-                Outcome::Exact
-            } else if 1000 * upper <= ratio * lower {
-                Outcome::Within
-            } else {
-                assert_eq!(splits, budget);
-                Outcome::Spent
-            };
-            assert_eq!(self.found.outcome, expected);
-            assert!(lower <= upper && splits <= budget);
-        }
-
-        /// The pattern handed over is accepted and drops exactly L.
-        fn hands_over_a_pattern(&self) {
-            let currents = LIBRARY.simulate(&mut self.lent.clone());
-            assert_eq!(currents.expect("accepted").drop, self.found.lower);
-        }
-
-        /// The cases in the store: each one's sets and upper number.
-        fn cases(&self) -> impl Iterator<Item = (&[u8], u64)> {
-            let records = self.lent.store.as_chunks::<72>().0;
-            let records = &records[..self.found.cases as usize];
-            records.iter().map(|record| {
-                let (sets, upper) = record.split_at(64);
-                (sets, u64::from_le_bytes(upper.try_into().expect("8 bytes")))
-            })
-        }
-
-        /// U is the greatest upper number in the store.
-        fn has_the_greatest_upper_number(&self) {
-            let uppers = self.cases().map(|(_, upper)| upper);
-            assert_eq!(uppers.max(), Some(self.found.upper));
-        }
-
-        /// The pattern draws at most the sheet in each word and drops at most U; it is in exactly one
-        /// case, and drops at most its upper number.
-        fn is_above(&self, pattern: &[u8], drop: u64, sheet: &[u32]) {
-            assert!(drop <= self.found.upper);
-            let mut words = sheet.iter().zip(&self.lent.sheet);
-            assert!(words.all(|(current, ceiling)| current <= ceiling));
-            let mut holding = self.cases().filter(|(sets, _)| {
-                let mut bytes = pattern.iter().zip(*sets);
-                bytes.all(|(byte, set)| set & (1 << byte) != 0)
-            });
-            let (_, upper) = holding.next().expect("a case holds the pattern");
-            assert!(drop <= upper);
-            assert!(holding.next().is_none(), "two cases hold the pattern");
-        }
+    /// What each search has to satisfy by itself.
+    fn is_right(searched: &Searched) -> Result<(), String> {
+        searched.has_the_right_outcome()?;
+        searched.hands_over_a_pattern(&LIBRARY)?;
+        searched.has_the_greatest_upper_number()
     }
 
     /// Two searches of the same file and table, which differ in all else.
@@ -784,7 +708,7 @@ mod agreement {
         let mut second = Arguments::random(random, block);
         second.table.clone_from(&first.table);
         second.hop_limit = 1 + (first.hop_limit + random.below(15) as u64) % 16;
-        [first, second].map(Searched::new)
+        [first, second].map(searched)
     }
 
     /// Demand 3, on small frames.
@@ -797,9 +721,7 @@ mod agreement {
             let block = small_block(&mut random);
             let searches = two_searches(&mut random, &block);
             for searched in &searches {
-                searched.has_the_right_outcome();
-                searched.hands_over_a_pattern();
-                searched.has_the_greatest_upper_number();
+                assert_eq!(is_right(searched), Ok(()));
                 outcomes[searched.found.outcome as usize] += 1;
             }
             let mut under = searches[0].lent.clone();
@@ -807,7 +729,7 @@ mod agreement {
                 under.pattern[..pattern.len()].copy_from_slice(&pattern);
                 let drop = LIBRARY.simulate(&mut under).expect("accepted").drop;
                 for searched in &searches {
-                    searched.is_above(&pattern, drop, &under.sheet);
+                    assert_eq!(searched.is_above(&pattern, drop, &under.sheet), Ok(()));
                     patterns_below += usize::from(0 < drop && drop < searched.found.upper);
                 }
             }
@@ -828,13 +750,13 @@ mod agreement {
             let mut arguments = Arguments::random(&mut random, &block);
             arguments.ratio = random.pick(&[1_000, 1_000, 1_050]);
             let enough = patterns(&block).len() as u64 - 1;
-            let searched = Searched::new(arguments.clone().with_budget(enough));
-            assert_ne!(searched.found.outcome, Outcome::Spent);
-            let splits = searched.found.splits;
-            let same = Searched::new(arguments.clone().with_budget(splits));
-            assert_eq!(same.found, searched.found);
+            let found = searched(arguments.clone().with_budget(enough)).found;
+            assert_ne!(found.outcome, Outcome::Spent);
+            let splits = found.splits;
+            let same = searched(arguments.clone().with_budget(splits));
+            assert_eq!(same.found, found);
             if splits > 0 {
-                let fewer = Searched::new(arguments.with_budget(splits - 1));
+                let fewer = searched(arguments.with_budget(splits - 1));
                 assert_eq!(fewer.found.outcome, Outcome::Spent);
                 assert_eq!(fewer.found.splits, splits - 1);
                 split += 1;

@@ -10,7 +10,7 @@ const UNUSED_WORD: u32 = 0xeeee_eeee;
 const UNUSED_BYTE: u8 = 0xee;
 
 /// Everything that Envelope, Simulate and Search take and are lent.
-#[derive(Clone, PartialEq, Eq)]
+#[derive(Clone, Debug, PartialEq, Eq)]
 pub struct Arguments {
     pub file: Vec<u8>,
     pub hop_limit: u64,
@@ -52,10 +52,15 @@ impl Arguments {
         self
     }
 
-    /// Random accepted arguments for a valid block, with a budget of at most 60. The buffers hold
-    /// noise, as do the pattern's bytes past the inputs; the work buffer and the case store may be
-    /// longer than they have to be.
+    /// Random accepted arguments for a valid block, with a budget of at most 60.
     pub fn random(random: &mut Random, block: &[Record]) -> Self {
+        Arguments::random_up_to(60, random, block)
+    }
+
+    /// Random accepted arguments for a valid block, with at most this budget, which is at least 7.
+    /// The buffers hold noise, as do the pattern's bytes past the inputs; the work buffer and the
+    /// case store may be longer than they have to be.
+    pub fn random_up_to(budget: usize, random: &mut Random, block: &[Record]) -> Self {
         let mut arguments = Arguments::new(block);
         let any = 1 + random.below(16);
         arguments.hop_limit = random.pick(&[1, 2, 3, any]) as u64;
@@ -67,8 +72,8 @@ impl Arguments {
         }
         let (close, any) = (random.below(1_000), random.below(9_001));
         arguments.ratio = random.pick(&[1_000, 1_000, 1_000 + close, 1_000 + any, 10_000]) as u64;
-        let (few, any) = (random.below(8), random.below(61));
-        arguments = arguments.with_budget(random.pick(&[0, few, few, any, 60]) as u64);
+        let (few, any) = (random.below(8), random.below(budget + 1));
+        arguments = arguments.with_budget(random.pick(&[0, few, few, any, budget]) as u64);
         for buffer in [&mut arguments.work, &mut arguments.store] {
             let length = buffer.len() + random.pick(&[0, 1, 71, 159, 160, 5000]);
             buffer.resize(length, 0);

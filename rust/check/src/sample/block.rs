@@ -1,7 +1,7 @@
 //! Records and random valid blocks.
 
 use super::Random;
-use crate::kind::{AND, BUF, INPUT, NAND, NOT};
+use crate::kind::{AND, BUF, INPUT, NAND, NOT, XOR};
 
 /// The 20 bytes of a net.
 pub type Record = [u8; 20];
@@ -67,6 +67,30 @@ pub fn block_f() -> Vec<Record> {
     vec![input(15), input(15), not, nand]
 }
 
+/// A block with a child above its parent. With two hops net 11 may rise at ticks 2, 4 to 8 and 10, and
+/// tick 3 is filled. Where net 1 is l, it may rise at ticks 2, 8 and 10, and tick 9 is filled, at which
+/// nets 13 and 14 draw 200.
+pub fn block_with_a_cap() -> Vec<Record> {
+    let delayed = |net, delay| silent(gate(BUF, &[net]), delay);
+    vec![
+        input(1 + 8),
+        input(1 + 8),
+        input(15),
+        delayed(0, 1),
+        delayed(0, 7),
+        delayed(0, 9),
+        delayed(1, 2),
+        delayed(1, 3),
+        delayed(1, 4),
+        delayed(1, 5),
+        silent(gate(XOR, &[6, 7, 8, 9]), 1),
+        peaks(gate(XOR, &[3, 4, 5, 10]), [10, 0]),
+        delayed(2, 8),
+        peaks(gate(BUF, &[12]), [100, 0]),
+        peaks(gate(NOT, &[12]), [100, 0]),
+    ]
+}
+
 /// What a random block looks like.
 pub struct Shape {
     /// How many inputs: 1 to 64.
@@ -93,6 +117,19 @@ impl Shape {
             reach: random.pick(&[1, 2, 8, 64, 1024]),
             delay: random.pick(&[1, 6, 63]),
             slope: random.pick(&[1, 4, 127]),
+        }
+    }
+
+    /// A random shape of a small block to search, mostly such that the envelope is above every drop,
+    /// so that there is something to split.
+    pub fn to_search(random: &mut Random) -> Self {
+        let (few, any) = (1 + random.below(6), 1 + random.below(16));
+        Shape {
+            inputs: random.pick(&[few, few, few, any]),
+            gates: 4 + random.below(36),
+            reach: random.pick(&[4, 16, 1024]),
+            delay: random.pick(&[1, 3, 6]),
+            slope: random.pick(&[1, 4, 20]),
         }
     }
 
@@ -140,4 +177,23 @@ impl Shape {
         }
         (record, latest + delay)
     }
+}
+
+/// A random block of which a few gates draw, and which may switch at many ticks that are not
+/// neighbours, so that gaps are filled.
+pub fn block_with_gaps(random: &mut Random) -> Vec<Record> {
+    let shape = Shape {
+        inputs: 2 + random.below(4),
+        gates: 8 + random.below(24),
+        reach: random.pick(&[8, 16, 1024]),
+        delay: random.pick(&[12, 24]),
+        slope: random.pick(&[1, 2]),
+    };
+    let mut block = shape.block(random);
+    for record in &mut block[shape.inputs..] {
+        if random.below(4) != 0 {
+            *record = silent(*record, record[2]);
+        }
+    }
+    block
 }

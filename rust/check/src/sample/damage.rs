@@ -1,6 +1,6 @@
-//! Damage to block files.
+//! Damage to block files and to the other arguments of a call.
 
-use super::Random;
+use super::{store_length, Arguments, Random};
 use crate::kind::INPUT;
 
 /// Values at the edges of the fields' ranges and just past them.
@@ -29,6 +29,42 @@ pub fn damage(random: &mut Random, file: &mut Vec<u8>) {
         11 => file.resize(file.len() + 1 + random.below(19), 0),
         _ => repeat(file, at, 20 * other),
     }
+}
+
+/// Makes a call fail, mostly, in one of the ways that the arguments can be wrong.
+pub fn spoil(random: &mut Random, arguments: &mut Arguments) {
+    match random.below(11) {
+        0 => damage(random, &mut arguments.file),
+        1 => arguments.hop_limit = random.pick(&[0, 17, 1 << 32, u64::MAX]),
+        2 => arguments.table.truncate(random.pick(&[0, 1, 15, 17, 255])),
+        3 => arguments.sheet.resize(random.pick(&[0, 8191, 8193]), 1),
+        4 => arguments.pattern.resize(random.pick(&[0, 63, 65]), 1),
+        5 => arguments
+            .work
+            .truncate(random.below(8 * arguments.file.len() + 1)),
+        6 => arguments.ratio = random.pick(&[0, 999, 10_001, 1 << 32, u64::MAX]),
+        7 => arguments.budget = random.pick(&[10_000, 10_001, 1 << 32, u64::MAX]),
+        8 => {
+            let least = store_length(arguments.budget.min(60));
+            arguments.store.truncate(random.pick(&[0, 71, least - 1]));
+        }
+        _ => {
+            let net = random.pick(&[0, 1, 5, 63]);
+            if let Some(byte) = arguments.pattern.get_mut(net) {
+                *byte = random.byte(0, 5);
+            }
+        }
+    }
+}
+
+/// A file of bytes with no plan, of which every other begins as an input does.
+pub fn noise(random: &mut Random) -> Vec<u8> {
+    let length = random.pick(&[1, 20]) * random.below(40);
+    let mut file: Vec<u8> = (0..length).map(|_| random.byte(0, 255)).collect();
+    if let (Some(kind), 0) = (file.first_mut(), random.below(2)) {
+        *kind = INPUT;
+    }
+    file
 }
 
 /// Gives the gates of the records the greatest delay.

@@ -31,6 +31,17 @@ pub fn envelope(
     Ok(write_envelope(&records, &frame, hop_limit, table, sheet))
 }
 
+/// How many gates of a valid block's file have a gap of their sets filled.
+pub fn gates_filled(file: &[u8], hop_limit: u64) -> u64 {
+    let records = records(file);
+    let filled = filled_waveforms(&records, &Frame::of_block(&records), hop_limit);
+    let nets = records.iter().zip(&filled);
+    let changed = nets.filter(|(record, waveform)| {
+        record.is_gate() && Waveform::of_gate(record, &filled).ticks != waveform.ticks
+    });
+    changed.count() as u64
+}
+
 /// Writes the envelope of a frame into the sheet and returns its drop and quiet
 /// tick.
 pub fn write_envelope(

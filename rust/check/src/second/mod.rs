@@ -14,7 +14,7 @@ mod search;
 mod simulate;
 mod waveform;
 
-pub use envelope::envelope;
+pub use envelope::{envelope, gates_filled};
 pub use read::read;
 pub use search::search;
 pub use simulate::simulate;

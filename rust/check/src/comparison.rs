@@ -1,0 +1,186 @@
+//! Two implementations beside each other: one call of each, then everything that the caller can see.
+
+use std::fmt::{Debug, Display};
+
+use crate::implementation::{Implementation, Operation};
+use crate::sample::Arguments;
+use zimgurav::Refusal;
+
+/// A call that two implementations agree on.
+pub struct Compared<Answer> {
+    pub answer: Result<Answer, Refusal>,
+    /// The arguments as the first implementation left them.
+    pub after: Arguments,
+}
+
+/// Makes a call in both implementations: the answers and all that was lent are the same, but for
+/// what an accepted call leaves in the work buffer. A refusal changes nothing. Otherwise returns
+/// the first difference, in words.
+pub fn compare<Answer: Copy + Debug + PartialEq>(
+    [first, second]: &[Implementation; 2],
+    call: Operation<Answer>,
+    before: &Arguments,
+) -> Result<Compared<Answer>, String> {
+    let (mut after, mut other) = (before.clone(), before.clone());
+    let answer = call(first, &mut after);
+    let expected = call(second, &mut other);
+    let (name, other_name) = (first.name, second.name);
+    if answer != expected {
+        return Err(format!(
+            "{name} answers {answer:?}, {other_name} {expected:?}"
+        ));
+    }
+    if answer.is_ok() {
+        other.work.clone_from(&after.work);
+        same(&after, &other).map_err(|place| format!("{name} and {other_name} differ: {place}"))?;
+    } else {
+        for (name, left) in [(name, &after), (other_name, &other)] {
+            same(left, before).map_err(|place| format!("{name} refuses and changes {place}"))?;
+        }
+    }
+    Ok(Compared { answer, after })
+}
+
+/// Returns the first place at which the arguments differ, in words.
+fn same(these: &Arguments, those: &Arguments) -> Result<(), String> {
+    same_words("sheet", &these.sheet, &those.sheet)?;
+    same_words("pattern", &these.pattern, &those.pattern)?;
+    same_words("case store", &these.store, &those.store)?;
+    same_words("work buffer", &these.work, &those.work)?;
+    same_words("file", &these.file, &those.file)?;
+    same_words("table", &these.table, &those.table)
+}
+
+fn same_words<T: PartialEq + Display>(name: &str, these: &[T], those: &[T]) -> Result<(), String> {
+    let mut pairs = these.iter().zip(those);
+    match pairs.position(|(this, that)| this != that) {
+        Some(at) => Err(format!("{name} at {at}: {}, {}", these[at], those[at])),
+        None => Ok(()),
+    }
+}
+
+/// Implementations that are wrong on purpose, each the second one but for one fault.
+#[cfg(test)]
+pub mod faults {
+    use super::*;
+    use crate::second;
+    use zimgurav::{Counts, Currents, Found};
+
+    /// Envelope answers a drop one too high.
+    pub const HIGH_DROP: Implementation = Implementation::new(
+        "high drop",
+        second::read,
+        |file, hop_limit, table, sheet, work| {
+            let currents = second::envelope(file, hop_limit, table, sheet, work)?;
+            let drop = currents.drop + 1;
+            Ok(Currents { drop, ..currents })
+        },
+        second::simulate,
+        second::search,
+    );
+
+    /// Simulate leaves the sheet untouched.
+    pub const SHEET_UNTOUCHED: Implementation = Implementation::new(
+        "sheet untouched",
+        second::read,
+        second::envelope,
+        |file, table, sheet, pattern, work| {
+            second::simulate(file, table, &mut sheet.to_vec(), pattern, work)
+        },
+        second::search,
+    );
+
+    /// Search clears the last byte of the case store, whatever it answers.
+    pub const STORE_CLEARED: Implementation = Implementation::new(
+        "store cleared",
+        second::read,
+        second::envelope,
+        second::simulate,
+        |file, hop_limit, table, ratio, budget, sheet, pattern, work, store| {
+            let answer = second::search(
+                file, hop_limit, table, ratio, budget, sheet, pattern, work, store,
+            );
+            store
+                .iter_mut()
+                .last()
+                .into_iter()
+                .for_each(|byte| *byte = 0);
+            answer
+        },
+    );
+
+    /// Search hands over a drop one above its pattern's.
+    pub const HIGH_LOWER: Implementation = Implementation::new(
+        "high lower number",
+        second::read,
+        second::envelope,
+        second::simulate,
+        |file, hop_limit, table, ratio, budget, sheet, pattern, work, store| {
+            let found = second::search(
+                file, hop_limit, table, ratio, budget, sheet, pattern, work, store,
+            )?;
+            let lower = found.lower + 1;
+            Ok(Found { lower, ..found })
+        },
+    );
+
+    /// Read counts one input too few.
+    pub const INPUT_LOST: Implementation = Implementation::new(
+        "input lost",
+        |file| {
+            let counts = second::read(file)?;
+            let inputs = counts.inputs - 1;
+            Ok(Counts { inputs, ..counts })
+        },
+        second::envelope,
+        second::simulate,
+        second::search,
+    );
+}
+
+#[cfg(test)]
+mod tests {
+    use super::faults::*;
+    use super::*;
+    use crate::implementation::SECOND;
+    use crate::sample::block_s;
+
+    /// What is said of a wrong implementation's call on block S beside the second one's.
+    fn said<Answer: Copy + Debug + PartialEq>(
+        wrong: Implementation,
+        call: Operation<Answer>,
+        arguments: &Arguments,
+    ) -> String {
+        let compared = compare(&[wrong, SECOND], call, arguments);
+        compared.err().unwrap_or_default()
+    }
+
+    #[test]
+    fn reports_a_wrong_answer() {
+        let arguments = Arguments::new(&block_s());
+        let drop = said(HIGH_DROP, Implementation::envelope, &arguments);
+        assert!(drop.starts_with("high drop answers Ok(Currents { drop: 21"));
+        let inputs = said(INPUT_LOST, Implementation::read, &arguments);
+        assert!(inputs.starts_with("input lost answers Ok(Counts { nets: 3, inputs: 0"));
+    }
+
+    #[test]
+    fn reports_a_buffer_left_or_changed() {
+        let mut arguments = Arguments::new(&block_s());
+        let sheet = said(SHEET_UNTOUCHED, Implementation::simulate, &arguments);
+        assert!(sheet.ends_with("differ: sheet at 0: 4008636142, 0"));
+        let last = arguments.store.len() - 1;
+        let store = said(STORE_CLEARED, Implementation::search, &arguments);
+        assert!(store.ends_with(&format!("differ: case store at {last}: 0, 238")));
+        arguments.ratio = 0;
+        let refused = said(STORE_CLEARED, Implementation::search, &arguments);
+        assert!(refused.starts_with("store cleared refuses and changes case store at"));
+    }
+
+    #[test]
+    fn says_nothing_of_equal_calls() {
+        let arguments = Arguments::new(&block_s());
+        assert_eq!(said(HIGH_DROP, Implementation::search, &arguments), "");
+        assert_eq!(said(SHEET_UNTOUCHED, Implementation::read, &arguments), "");
+    }
+}

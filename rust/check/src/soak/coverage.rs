@@ -1,0 +1,183 @@
+//! What a soak has covered.
+
+use std::fmt;
+use std::time::Duration;
+
+use crate::kind::INPUT;
+use crate::sample::Arguments;
+use zimgurav::{Counts, Found, Outcome, Refusal};
+
+/// The operations, in the order in which their answers are counted.
+pub const OPERATIONS: [&str; 4] = ["Read", "Envelope", "Simulate", "Search"];
+
+/// The least numbers of records of the size classes, and the classes' names.
+const SIZES: [(usize, &str); 7] = [
+    (0, "none"),
+    (1, "1"),
+    (2, "2 to 16"),
+    (17, "17 to 100"),
+    (101, "101 to 512"),
+    (513, "513 to 1,024"),
+    (1025, "more"),
+];
+
+/// The least numbers of inputs of the classes, and the classes' names.
+const INPUTS: [(usize, &str); 5] = [
+    (1, "1"),
+    (2, "2 to 8"),
+    (9, "9 to 32"),
+    (33, "33 to 63"),
+    (64, "64"),
+];
+
+/// The least numbers of bus nodes of the classes, and the classes' names.
+const NODES: [(usize, &str); 4] = [(1, "1"), (2, "2 to 8"), (9, "9 to 15"), (16, "16")];
+
+/// The kinds of gates, from 2 on.
+const GATES: [&str; 8] = ["AND", "NAND", "OR", "NOR", "XOR", "XNOR", "NOT", "BUF"];
+
+/// A sum of numbers and the greatest of them.
+#[derive(Default)]
+struct Total {
+    sum: u64,
+    greatest: u64,
+}
+
+impl Total {
+    fn add(&mut self, number: u64) {
+        self.sum += number;
+        self.greatest = self.greatest.max(number);
+    }
+}
+
+impl fmt::Display for Total {
+    fn fmt(&self, f: &mut fmt::Formatter) -> fmt::Result {
+        write!(f, "{}, greatest {}", self.sum, self.greatest)
+    }
+}
+
+/// Counts of what the blocks and calls of a soak were like.
+#[derive(Default)]
+pub struct Coverage {
+    pub blocks: u64,
+    /// The time of all blocks.
+    pub elapsed: Duration,
+    /// The longest time of a block, and the block's number.
+    pub longest: (Duration, u64),
+    /// Patterns that were simulated and held against a search, but for those handed over.
+    pub patterns: u64,
+    /// Cases, in the stores at the end, whose upper number is their parent's and not their own.
+    pub capped: u64,
+    sizes: [u64; 7],
+    /// For each operation the accepted calls, then the refusals by number.
+    answers: [[u64; 17]; 4],
+    inputs: [u64; 5],
+    kinds: [u64; 8],
+    pins: [u64; 4],
+    nodes: [u64; 4],
+    hop_limits: [u64; 16],
+    /// Gates of accepted envelopes, and those of them that had a gap filled.
+    gates: u64,
+    filled: u64,
+    /// By outcome: without a split and after one.
+    outcomes: [[u64; 2]; 3],
+    splits: Total,
+    cases: Total,
+}
+
+/// Counts a number in its class, the last whose least number it reaches.
+fn count_in(classes: &[(usize, &str)], counts: &mut [u64], number: usize) {
+    let reached = classes.iter().filter(|(least, _)| *least <= number);
+    counts[reached.count() - 1] += 1;
+}
+
+impl Coverage {
+    /// Counts the block of a call, and what it is made of where it is accepted.
+    pub fn count_block(&mut self, call: &Arguments, read: Result<Counts, Refusal>) {
+        let (records, _) = call.file.as_chunks::<20>();
+        self.blocks += 1;
+        count_in(&SIZES, &mut self.sizes, records.len());
+        let Ok(counts) = read else { return };
+        count_in(&INPUTS, &mut self.inputs, counts.inputs as usize);
+        for gate in records.iter().filter(|record| record[0] != INPUT) {
+            self.kinds[usize::from(gate[0]) - 2] += 1;
+            self.pins[usize::from(gate[3]) - 1] += 1;
+        }
+    }
+
+    /// Counts the answer of the operation at this place of [`OPERATIONS`].
+    pub fn count_answer<Answer>(&mut self, operation: usize, answer: &Result<Answer, Refusal>) {
+        let number = answer.as_ref().map_or_else(|refusal| refusal.number, |_| 0);
+        self.answers[operation][number as usize] += 1;
+    }
+
+    /// Counts an accepted envelope of which so many gates had a gap filled.
+    pub fn count_envelope(&mut self, call: &Arguments, counts: Counts, filled: u64) {
+        count_in(&NODES, &mut self.nodes, call.table.len() / 16);
+        self.hop_limits[call.hop_limit as usize - 1] += 1;
+        self.gates += counts.nets - counts.inputs;
+        self.filled += filled;
+    }
+
+    /// Counts an accepted search.
+    pub fn count_search(&mut self, found: &Found) {
+        self.outcomes[found.outcome as usize][usize::from(found.splits > 0)] += 1;
+        self.splits.add(found.splits);
+        self.cases.add(found.cases);
+    }
+}
+
+/// The counts of classes behind their names.
+fn named<'a>(names: impl IntoIterator<Item = &'a str>, counts: &[u64]) -> String {
+    let pairs = names.into_iter().zip(counts);
+    let words: Vec<String> = pairs
+        .map(|(name, count)| format!("{name}: {count}"))
+        .collect();
+    words.join(", ")
+}
+
+/// The counts of classes behind the classes' names.
+fn classes(classes: &[(usize, &'static str)], counts: &[u64]) -> String {
+    named(classes.iter().map(|(_, name)| *name), counts)
+}
+
+/// A line for each operation: the accepted calls, then the refusals by number.
+fn write_answers(f: &mut fmt::Formatter, answers: &[[u64; 17]; 4]) -> fmt::Result {
+    write!(f, "answers   accepted")?;
+    for number in 1..=16 {
+        write!(f, "{number:>6}")?;
+    }
+    for (operation, counts) in OPERATIONS.iter().zip(answers) {
+        write!(f, "\n  {operation:<8}{:>8}", counts[0])?;
+        for count in &counts[1..] {
+            write!(f, "{count:>6}")?;
+        }
+    }
+    writeln!(f)
+}
+
+impl fmt::Display for Coverage {
+    fn fmt(&self, f: &mut fmt::Formatter) -> fmt::Result {
+        let (blocks, elapsed) = (self.blocks, self.elapsed.as_secs_f64());
+        let (longest, number) = (self.longest.0.as_secs_f64(), self.longest.1);
+        write!(f, "blocks    {blocks} in {elapsed:.1} s, ")?;
+        writeln!(f, "the longest {longest:.2} s (block {number})")?;
+        writeln!(f, "records   {}", classes(&SIZES, &self.sizes))?;
+        write_answers(f, &self.answers)?;
+        writeln!(f, "inputs    {}", classes(&INPUTS, &self.inputs))?;
+        writeln!(f, "gates     {}", named(GATES, &self.kinds))?;
+        writeln!(f, "pins      {}", named(["1", "2", "3", "4"], &self.pins))?;
+        writeln!(f, "nodes     {}", classes(&NODES, &self.nodes))?;
+        writeln!(f, "hops      1 to 16: {:?}", self.hop_limits)?;
+        let (gates, filled) = (self.gates, self.filled);
+        writeln!(f, "filled    {filled} of {gates} gates of envelopes")?;
+        for outcome in [Outcome::Exact, Outcome::Within, Outcome::Spent] {
+            let [without, after] = self.outcomes[outcome as usize];
+            let name = outcome.to_string();
+            writeln!(f, "{name:<10}{without} without a split, {after} after one")?;
+        }
+        writeln!(f, "splits    {}", self.splits)?;
+        writeln!(f, "cases     {}; {} capped", self.cases, self.capped)?;
+        write!(f, "patterns  {} held against searches", self.patterns)
+    }
+}

@@ -1,0 +1,181 @@
+//! The soak: random blocks through every operation of two implementations, for as long as it is told.
+//!
+//! A block and its arguments follow from the seed and the block's number alone.
+
+mod call;
+mod coverage;
+
+use std::ops::Range;
+use std::panic::{catch_unwind, AssertUnwindSafe};
+use std::time::{Duration, Instant};
+
+use crate::agreement::Searched;
+use crate::comparison::compare;
+use crate::implementation::Implementation;
+use crate::kind::INPUT;
+use crate::sample::{allowed, Arguments, Random};
+use crate::second;
+pub use coverage::Coverage;
+use coverage::OPERATIONS;
+
+/// How many random patterns are held against each accepted search.
+const PATTERNS: usize = 3;
+
+/// A block on which the implementations differ or the search does not agree with simulations.
+#[derive(Debug)]
+pub struct Difference {
+    /// The block's number.
+    pub number: u64,
+    /// What was done, and what was seen.
+    pub seen: String,
+    pub arguments: Arguments,
+}
+
+/// Compares the implementations on the blocks of these numbers, until one shows a difference or the
+/// time is over. Returns what was covered, and the difference.
+pub fn soak(
+    pair: &[Implementation; 2],
+    seed: u64,
+    numbers: Range<u64>,
+    time: Duration,
+) -> (Coverage, Option<Difference>) {
+    let mut coverage = Coverage::default();
+    let start = Instant::now();
+    for number in numbers {
+        let before = start.elapsed();
+        if before >= time {
+            break;
+        }
+        let difference = soak_block(pair, seed, number, &mut coverage);
+        coverage.elapsed = start.elapsed();
+        let spent = coverage.elapsed - before;
+        coverage.longest = coverage.longest.max((spent, number));
+        if difference.is_some() {
+            return (coverage, difference);
+        }
+    }
+    (coverage, None)
+}
+
+/// Compares the implementations on one block. A call that panics is a difference too.
+fn soak_block(
+    pair: &[Implementation; 2],
+    seed: u64,
+    number: u64,
+    coverage: &mut Coverage,
+) -> Option<Difference> {
+    let first = Random::new(seed).bits();
+    let mut random = Random::new(first.wrapping_add(number));
+    let arguments = call::random_call(&mut random);
+    let compared = catch_unwind(AssertUnwindSafe(|| {
+        compare_calls(pair, &arguments, &mut random, coverage)
+    }));
+    let seen = compared.unwrap_or_else(|_| Err("a call panicked".to_string()));
+    seen.err().map(|seen| Difference {
+        number,
+        seen,
+        arguments,
+    })
+}
+
+/// Makes all four calls in both implementations, and holds simulations against an accepted search.
+fn compare_calls(
+    pair: &[Implementation; 2],
+    arguments: &Arguments,
+    random: &mut Random,
+    coverage: &mut Coverage,
+) -> Result<(), String> {
+    let in_operation =
+        |operation: usize| move |seen: String| format!("{}: {seen}", OPERATIONS[operation]);
+
+    let read = compare(pair, Implementation::read, arguments).map_err(in_operation(0))?;
+    coverage.count_block(arguments, read.answer);
+    coverage.count_answer(0, &read.answer);
+
+    let envelope = compare(pair, Implementation::envelope, arguments).map_err(in_operation(1))?;
+    coverage.count_answer(1, &envelope.answer);
+    if let (Ok(counts), Ok(_)) = (read.answer, envelope.answer) {
+        let filled = second::gates_filled(&arguments.file, arguments.hop_limit);
+        coverage.count_envelope(arguments, counts, filled);
+    }
+
+    let simulate = compare(pair, Implementation::simulate, arguments).map_err(in_operation(2))?;
+    coverage.count_answer(2, &simulate.answer);
+
+    let search = compare(pair, Implementation::search, arguments).map_err(in_operation(3))?;
+    coverage.count_answer(3, &search.answer);
+    if let Ok(found) = search.answer {
+        let lent = search.after;
+        coverage.count_search(&found);
+        hold_against_simulations(&pair[0], &Searched { lent, found }, random, coverage)
+            .map_err(|seen| format!("Search against Simulate: {seen}"))?;
+    }
+    Ok(())
+}
+
+/// An accepted search has the right outcome, hands over a pattern that drops L, and is above random
+/// patterns.
+fn hold_against_simulations(
+    implementation: &Implementation,
+    searched: &Searched,
+    random: &mut Random,
+    coverage: &mut Coverage,
+) -> Result<(), String> {
+    searched.has_the_right_outcome()?;
+    searched.has_the_greatest_upper_number()?;
+    searched.hands_over_a_pattern(implementation)?;
+    coverage.capped += searched.capped_cases(implementation)?;
+    let (block, _) = searched.lent.file.as_chunks::<20>();
+    let inputs = || block.iter().take_while(|record| record[0] == INPUT);
+    let mut lent = searched.without_the_store();
+    for _ in 0..PATTERNS {
+        for (byte, input) in lent.pattern.iter_mut().zip(inputs()) {
+            *byte = random.pick(&allowed(input));
+        }
+        let currents = implementation.simulate(&mut lent);
+        let drop = currents.map_err(|refusal| format!("{refusal}"))?.drop;
+        searched.is_above(&lent.pattern[..inputs().count()], drop, &lent.sheet)?;
+        coverage.patterns += 1;
+    }
+    Ok(())
+}
+
+#[cfg(test)]
+mod tests {
+    use super::*;
+    use crate::comparison::faults;
+    use crate::implementation::SECOND;
+
+    const HOUR: Duration = Duration::from_secs(3600);
+
+    /// The second implementation agrees with itself on the first blocks, and every one of these
+    /// wrong implementations is found out on them.
+    #[test]
+    fn finds_each_fault() {
+        let (coverage, none) = soak(&[SECOND; 2], 1, 0..60, HOUR);
+        assert!(none.is_none(), "{none:?}");
+        assert_eq!(coverage.blocks, 60);
+        let faults = [
+            (faults::INPUT_LOST, "Read: "),
+            (faults::HIGH_DROP, "Envelope: "),
+            (faults::SHEET_UNTOUCHED, "Simulate: "),
+            (faults::STORE_CLEARED, "Search: "),
+            (faults::HIGH_LOWER, "Search: "),
+        ];
+        for (wrong, operation) in faults {
+            let (_, found) = soak(&[wrong, SECOND], 1, 0..60, HOUR);
+            let found = found.expect(wrong.name);
+            assert!(found.seen.starts_with(operation), "{}", found.seen);
+            let again = soak(&[wrong, SECOND], 1, found.number..found.number + 1, HOUR);
+            assert_eq!(again.1.expect("again").seen, found.seen);
+        }
+    }
+
+    /// Two implementations that are wrong in the same way agree, but not with the simulations.
+    #[test]
+    fn finds_a_common_fault() {
+        let (_, found) = soak(&[faults::HIGH_LOWER; 2], 1, 0..60, HOUR);
+        let seen = found.expect("a difference").seen;
+        assert!(seen.starts_with("Search against Simulate: "), "{seen}");
+    }
+}

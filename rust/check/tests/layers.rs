@@ -1,0 +1,511 @@
+//! "The search rests on the envelope's promise and on nothing inside it": what the crates name of each
+//! other, and what the proofs of `search` open, read from the text of the crates.
+//!
+//! A definition of another module is shut unless a proof names it on an `unfolding` line or in
+//! `unfold .. in`; only an `abbrev` opens by itself. So all that the search can see of the crates below
+//! it are the names that it cites, the abbreviations among them opened, and what its proofs unfold. Each
+//! of the three is a list here, with the reasons, and the crates have to keep to it.
+
+use std::collections::{BTreeMap, BTreeSet};
+use std::path::Path;
+
+use check::repository::{declares, files, text};
+
+/// The crates inside which the search may not look.
+const INSIDE: [&str; 6] = [
+    "fill",
+    "waveform",
+    "current",
+    "evaluation",
+    "simulator",
+    "envelope",
+];
+
+/// Names of a module, and why the search may have them.
+struct Named {
+    module: &'static str,
+    names: &'static [&'static str],
+    why: &'static str,
+}
+
+/// All that `search` cites of the crates inside which it may not look.
+const CITED: [Named; 18] = [
+    Named {
+        module: "evaluation.specs.Evaluation",
+        names: &["simulatedSheet", "envelopeSheet"],
+        why: "The sheets of Simulate's and Envelope's promises, whose drops the search is over.",
+    },
+    Named {
+        module: "evaluation.specs.Evaluation",
+        names: &["HasRows", "Given", "Evaluated"],
+        why: "Records of the contract of `evaluate`: what it is given and what it answers.",
+    },
+    Named {
+        module: "simulator.specs.Simulate",
+        names: &["PatternEvaluated"],
+        why: "The record of what `evaluate_pattern` promises.",
+    },
+    Named {
+        module: "simulator.specs.Simulate",
+        names: &["Simulated", "patternSheet"],
+        why: "Simulate's promise, which the agreement is about, and the sheet that it names.",
+    },
+    Named {
+        module: "simulator.specs.Simulate",
+        names: &["byteAllowed", "bytesFrom", "sizeChecks", "simulateVerdict"],
+        why: "Simulate's checks: the agreement says that it accepts the pattern handed over.",
+    },
+    Named {
+        module: "simulator.proofs.Patterns",
+        names: &["pattern-chosen"],
+        why: "The law that a pattern which refusal 16 lets pass is a choice of the frame.",
+    },
+    Named {
+        module: "envelope.proofs.Soundness",
+        names: &["soundness"],
+        why: "The soundness law, on which the search rests.",
+    },
+    Named {
+        module: "evaluation.specs.Arguments",
+        names: &[
+            "hopsRight",
+            "tableRight",
+            "ratioRight",
+            "hopsCheck",
+            "tableCheck",
+            "ratioCheck",
+            "budgetCheck",
+            "sheetCheck",
+            "patternCheck",
+            "workCheck",
+            "storeCheck",
+        ],
+        why: "Checks 11 to 15, which Search makes too.",
+    },
+    Named {
+        module: "evaluation.specs.Operation",
+        names: &["answerAfter", "bufferAfter", "sheetAfter", "WorkAfter"],
+        why: "What an operation answers and leaves in its buffers, by the verdict on its checks.",
+    },
+    Named {
+        module: "evaluation.proofs.Operations",
+        names: &["after-refusal", "after-counts"],
+        why: "Laws of the verdict once Read has refused or accepted the file.",
+    },
+    Named {
+        module: "evaluation.specs.declared.Currents",
+        names: &["Currents"],
+        why: "The struct that the evaluations answer.",
+    },
+    Named {
+        module: "evaluation.specs.declared.CurrentsAnswer",
+        names: &["CurrentsAnswer"],
+        why: "Simulate's answer, which the agreement is about.",
+    },
+    Named {
+        module: "evaluation.specs.declared.CurrentsAnswer.the-variants",
+        names: &["Flowing", "*"],
+        why: "The variants of that answer.",
+    },
+    Named {
+        module: "current.specs.Current",
+        names: &["Sheet", "sheetWords", "dropOf"],
+        why: "The type of a sheet, its words in a buffer and its drop, the last two shut.",
+    },
+    Named {
+        module: "current.specs.Words",
+        names: &["Cleared"],
+        why: "The record of what `current::clear` promises: every word is 0.",
+    },
+    Named {
+        module: "current.proofs.Sheets",
+        names: &["word-is", "sheet-long", "sheet-is", "words-at-most"],
+        why: "Laws of the words of any sheet, whatever it is the sheet of.",
+    },
+    Named {
+        module: "evaluation::",
+        names: &["evaluate", "arguments"],
+        why: "The code of an evaluation and of checks 11 and 12, called by contract.",
+    },
+    Named {
+        module: "simulator::, current::",
+        names: &["evaluate_pattern", "clear"],
+        why: "The simulation of a pattern and the clearing of the sheet, called by contract.",
+    },
+];
+
+/// The abbreviations among them, which open by themselves, and why that shows nothing inside.
+const ABBREVIATIONS: [(&[&str], &str); 4] = [
+    (
+        &["simulatedSheet", "envelopeSheet", "patternSheet"],
+        "They open to `sheetOf`, which stays shut.",
+    ),
+    (
+        &["Sheet"],
+        "It opens to the type of functions from contact and tick to a number.",
+    ),
+    (
+        &["answerAfter", "bufferAfter", "sheetAfter", "WorkAfter"],
+        "They open to cases on the verdict.",
+    ),
+    (
+        &[
+            "hopsCheck",
+            "tableCheck",
+            "ratioCheck",
+            "budgetCheck",
+            "sheetCheck",
+            "patternCheck",
+            "workCheck",
+            "storeCheck",
+        ],
+        "They open to a check's number, place and test.",
+    ),
+];
+
+/// All that `search` unfolds, in its proofs and anywhere, of crates other than `search`, `cases` and `laws`.
+const UNFOLDED: [Named; 5] = [
+    Named {
+        module: "evaluation.specs.Arguments",
+        names: &["hopsRight", "ratioRight"],
+        why: "Checks 11 and 13: ranges of numbers.",
+    },
+    Named {
+        module: "simulator.specs.Simulate",
+        names: &["byteAllowed", "bytesFrom", "sizeChecks", "simulateVerdict"],
+        why: "Simulate's checks; none of them says what a simulation is.",
+    },
+    Named {
+        module: "block.specs.Refusals",
+        names: &["within", "readOf"],
+        why: "The test of a range, and the verdict on a file.",
+    },
+    Named {
+        module: "excitation.specs.UncertaintySet",
+        names: &["code", "setsIn"],
+        why: "The sets that the bytes of a case's record stand for.",
+    },
+    Named {
+        module: "excitation.specs.Excitation",
+        names: &["byteOf", "patternOf"],
+        why: "The excitations that the bytes of a pattern stand for.",
+    },
+];
+
+/// The text without comments.
+fn code(text: &str) -> String {
+    let lines = text.lines().map(|line| match line.find("--") {
+        Some(at) if line[..at].trim().is_empty() || line[..at].ends_with(' ') => &line[..at],
+        _ => line.split("//").next().unwrap_or(line),
+    });
+    lines.collect::<Vec<&str>>().join("\n")
+}
+
+/// Whether a character may stand in a name of a module, a definition or a function.
+fn in_name(character: char) -> bool {
+    !character.is_whitespace() && !"(){};,.:&<>\"".contains(character)
+}
+
+/// The module of a `Rattle.crate.specs.Module` path, as `crate.specs.Module`, without what follows the
+/// crate's own name where a crate cites itself.
+fn module_of(path: &str) -> String {
+    let path = path.trim_start_matches("Rattle·");
+    let (name, rest) = path.split_once('.').unwrap_or((path, ""));
+    let name = name.split('·').next().unwrap_or(name);
+    format!("{name}.{rest}")
+}
+
+/// Every name that a text cites of our crates, with its module: by `use` lines, by whole paths, and in
+/// code by `crate::name`. A module cited whole is cited with the name `*`.
+fn citations(text: &str, crates: &[&str]) -> BTreeSet<(String, String)> {
+    let mut cited = BTreeSet::new();
+    for line in code(text).lines() {
+        for (at, _) in line.match_indices("Rattle·") {
+            let path: String = line[at..]
+                .chars()
+                .take_while(|&character| in_name(character) || character == '.')
+                .collect();
+            let rest = &line[at + path.len()..];
+            if let Some(names) = rest.strip_prefix('{') {
+                let (names, _) = names.split_once('}').expect("braces closed on their line");
+                let module = module_of(path.trim_end_matches('.'));
+                cited.extend(
+                    names
+                        .split(',')
+                        .map(|name| (module.clone(), name.trim().to_string())),
+                );
+            } else if rest.starts_with(" as ") {
+                cited.insert((module_of(&path), "*".to_string()));
+            } else {
+                let (module, name) = path.rsplit_once('.').unwrap_or((&path, "*"));
+                cited.insert((module_of(module), name.to_string()));
+            }
+        }
+        cited.extend(calls(line, crates));
+    }
+    cited
+}
+
+/// The names of a line of code that stand behind `crate::`.
+fn calls(line: &str, crates: &[&str]) -> Vec<(String, String)> {
+    let places = line.match_indices("::").filter_map(|(at, _)| {
+        let before = line[..at].rsplit(|character| !in_name(character)).next()?;
+        let name: String = line[at + 2..]
+            .chars()
+            .take_while(|&each| in_name(each))
+            .collect();
+        let named = crates.contains(&before);
+        named.then(|| (format!("{before}::"), name))
+    });
+    places.collect()
+}
+
+/// The names that a text unfolds, on `unfolding` lines and by `unfold .. in`.
+fn unfolded(text: &str) -> BTreeSet<String> {
+    let mut names = BTreeSet::new();
+    for line in code(text).lines() {
+        let mut words =
+            line.split(|character: char| character.is_whitespace() || "()".contains(character));
+        while let Some(word) = words.next() {
+            if word == "unfold" || word == "unfolding" {
+                let opened = words.by_ref().take_while(|&word| word != "in");
+                names.extend(opened.filter(|name| !name.is_empty()).map(str::to_string));
+            }
+        }
+    }
+    names
+}
+
+/// The module that a text has an unfolded name from: by a whole path, by a module's other name, by its
+/// `use` lines, or `search` where the text defines it.
+fn origin(name: &str, text: &str, cited: &BTreeSet<(String, String)>) -> Option<String> {
+    let code = code(text);
+    if let Some((module, _)) = name.rsplit_once('.') {
+        if module.starts_with("Rattle·") {
+            return Some(module_of(module));
+        }
+        let other_name = format!(" as {module}");
+        let line = code.lines().find(|line| line.ends_with(&other_name))?;
+        let path = line.trim_end_matches(&other_name).split(' ').next_back()?;
+        return Some(module_of(path));
+    }
+    let from = cited.iter().find(|(_, cited)| cited == name);
+    let defined = code.lines().any(|line| declares(line, name));
+    let own = defined.then(|| "search".to_string());
+    from.map(|(module, _)| module.clone()).or(own)
+}
+
+/// Which of the names of the crates inside which the search may not look a text unfolds, or any that it
+/// does not have from a crate that it may open.
+fn opened(text: &str) -> Vec<(String, String)> {
+    let cited = citations(text, &[]);
+    let mut opened = Vec::new();
+    for name in unfolded(text) {
+        let module = origin(&name, text, &cited).unwrap_or_else(|| "unknown".to_string());
+        let name = name.rsplit('.').next().unwrap_or(&name).to_string();
+        let owner = module.split('.').next().unwrap_or(&module);
+        if !["search", "cases", "laws"].contains(&owner) {
+            opened.push((module, name));
+        }
+    }
+    opened
+}
+
+/// The crates, lowest first, each with those that it may cite.
+fn crates() -> Vec<(String, Vec<String>)> {
+    let lines = text("crates.txt");
+    let lines = lines.lines().filter(|line| !line.starts_with('#'));
+    let crates = lines.filter_map(|line| line.split_once(':'));
+    crates
+        .map(|(name, cited)| {
+            (
+                name.to_string(),
+                cited.split_whitespace().map(str::to_string).collect(),
+            )
+        })
+        .collect()
+}
+
+/// Every name of our crates that a crate cites, by the file in which it does.
+fn cited_by(name: &str, crates: &[&str]) -> BTreeMap<(String, String), String> {
+    let mut cited = BTreeMap::new();
+    for file in files(Path::new("crates").join(name), &["rt", "antt"]) {
+        for citation in citations(&text(&file), crates) {
+            cited.insert(citation, file.display().to_string());
+        }
+    }
+    cited
+}
+
+/// The crate of a cited module.
+fn owner(module: &str) -> &str {
+    module.split(['.', ':']).next().unwrap_or(module)
+}
+
+fn is_listed(list: &[Named], module: &str, name: &str) -> bool {
+    let mut entries = list
+        .iter()
+        .filter(|entry| entry.module.split(", ").any(|each| each == module));
+    entries.any(|entry| entry.names.contains(&name))
+}
+
+#[test]
+fn each_crate_names_only_those_below_it() {
+    let crates = crates();
+    let names: Vec<&str> = crates.iter().map(|(name, _)| name.as_str()).collect();
+    for (place, (name, allowed)) in crates.iter().enumerate() {
+        let below = |other: &str| names[..place].contains(&other);
+        let known = |other: &&String| names.contains(&other.as_str());
+        for other in allowed.iter().filter(known) {
+            assert!(
+                below(other),
+                "crates.txt lists {other} for {name}, which is not below it"
+            );
+        }
+        for ((module, cited), file) in cited_by(name, &names) {
+            let other = owner(&module);
+            let right = other == name || (below(other) && allowed.iter().any(|each| each == other));
+            assert!(right, "{file} cites {module} {cited}");
+        }
+    }
+}
+
+#[test]
+fn cases_knows_nothing_of_simulation_and_envelope() {
+    let names: Vec<String> = crates().into_iter().map(|(name, _)| name).collect();
+    let names: Vec<&str> = names.iter().map(String::as_str).collect();
+    let cited = cited_by("cases", &names);
+    assert!(cited.len() > 100, "{} citations", cited.len());
+    for ((module, name), file) in cited {
+        assert!(
+            !INSIDE.contains(&owner(&module)),
+            "{file} cites {module} {name}"
+        );
+    }
+}
+
+#[test]
+fn search_cites_what_is_listed() {
+    let cited = cited_by("search", &INSIDE);
+    let inside = cited
+        .iter()
+        .filter(|((module, _), _)| INSIDE.contains(&owner(module)));
+    for ((module, name), file) in inside {
+        assert!(
+            is_listed(&CITED, module, name),
+            "{file} cites {module} {name}: say why in CITED"
+        );
+    }
+    for entry in &CITED {
+        for name in entry.names {
+            let mut modules = entry.module.split(", ");
+            let used =
+                modules.any(|module| cited.contains_key(&(module.to_string(), name.to_string())));
+            assert!(
+                used,
+                "{} {name} is cited no more: {}",
+                entry.module, entry.why
+            );
+        }
+    }
+}
+
+#[test]
+fn search_unfolds_what_is_listed() {
+    let mut seen = BTreeSet::new();
+    for file in files("crates/search", &["rt", "antt"]) {
+        for (module, name) in opened(&text(&file)) {
+            let file = file.display();
+            assert!(
+                is_listed(&UNFOLDED, &module, &name),
+                "{file} unfolds {module} {name}: say why in UNFOLDED"
+            );
+            seen.insert((module, name));
+        }
+    }
+    for entry in &UNFOLDED {
+        for name in entry.names {
+            let used = seen.contains(&(entry.module.to_string(), name.to_string()));
+            assert!(
+                used,
+                "{} {name} is unfolded no more: {}",
+                entry.module, entry.why
+            );
+        }
+    }
+}
+
+/// The text of a module of definitions or laws; code and what it declares has none.
+fn module_text(module: &str) -> Option<String> {
+    let in_code = module.contains("declared") || module.contains(':');
+    let path = format!("crates/{}.antt", module.replace('.', "/"));
+    (!in_code).then(|| text(path))
+}
+
+/// The marks on the definition of a name in a module.
+fn marks(module: &str, name: &str) -> Option<String> {
+    let text = module_text(module)?;
+    let line = text.lines().find(|line| declares(line, name))?;
+    let (marks, _) = line.split_once(name)?;
+    Some(marks.trim().to_string())
+}
+
+#[test]
+fn abbreviations_show_nothing_inside() {
+    for entry in &CITED {
+        for name in entry.names {
+            let marks = marks(entry.module, name).unwrap_or_default();
+            let listed = ABBREVIATIONS.iter().any(|(names, _)| names.contains(name));
+            assert_eq!(marks.contains("abbrev"), listed, "{name}");
+        }
+        // A definition that unfolds others would open them with itself.
+        if let (true, Some(text)) = (entry.module.contains(".specs."), module_text(entry.module)) {
+            assert_eq!(unfolded(&text), BTreeSet::new(), "{}", entry.module);
+        }
+    }
+    for shut in ["sheetOf", "sheetWords", "dropOf"] {
+        assert_eq!(
+            marks("current.specs.Current", shut).as_deref(),
+            Some("unfoldable pub"),
+            "{shut}"
+        );
+    }
+}
+
+/// A made-up proof that looks into the envelope is found out.
+#[test]
+fn a_proof_that_looks_inside_is_seen() {
+    let proof = "\
+use Rattle.cases.specs.Case.{probe, decided}
+use Rattle.waveform.specs.Waveform.{gateAt, netWaveform}
+use Rattle.current.specs.Current as cases
+-- unfolding sheetOf: a comment opens nothing
+pub law : (n : ℕ) → gateAt n ≡ probe n
+unfolding probe gateAt
+law n = refl
+
+other : (n : ℕ) → unfold cases.sheetOf in (own n ≡ 0)
+  unfolding own Rattle.fill.specs.Fill.filled
+other n = unfold unknown in refl
+
+own : ℕ → ℕ
+";
+    let is = |module: &str, name: &str| (module.to_string(), name.to_string());
+    assert_eq!(
+        opened(proof),
+        [
+            is("fill.specs.Fill", "filled"),
+            is("current.specs.Current", "sheetOf"),
+            is("waveform.specs.Waveform", "gateAt"),
+            is("unknown", "unknown"),
+        ]
+    );
+    let cited = citations(proof, &[]);
+    assert!(cited.contains(&is("current.specs.Current", "*")));
+    assert!(cited.contains(&is("fill.specs.Fill", "filled")));
+    let code = "use block::Net; let all = fill::fill(waveform::row(1));";
+    assert_eq!(
+        citations(code, &INSIDE),
+        [is("fill::", "fill"), is("waveform::", "row")].into()
+    );
+}
