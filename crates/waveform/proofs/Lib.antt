@@ -3,6 +3,7 @@ pub mod Written
 pub mod Rows
 pub mod Pins
 pub mod Joined
+pub mod Gates
 pub mod Waveforms
 pub mod Within
 pub mod Settles

@@ -26,7 +26,8 @@ use Rattle.waveform.specs.Pins.{pinSample, GateSampled, Delayed}
 use Rattle.waveform.specs.Rows.{codeIn, waveformIn, waveformsIn, lastIn, latestIn, pinsLastIn, sampleIn, SettledAfter, SameAfter, LastChange, Written, Ready, GateMade, InputMade}
 use Rattle.waveform.specs.Waveform.{earlier, envelope, inputWaveform, gateFrom, pinWaveform, gateAt, gateWaveform}
 use Rattle.waveform.proofs.Settles.{input-settles}
-use Rattle.waveform.proofs.Waveforms.{waveform-is, gate-same}
+use Rattle.waveform.proofs.Gates.{gate-same}
+use Rattle.waveform.proofs.Waveforms.{waveform-is}
 
 -- The sets of 256 codes.
 sets-list : (codes : List ℕ) (f : ℕ → UncertaintySet) → length codes ≡ 256 → ((t : ℕ) → t < 256 → decode (getD codes t 0) ≡ f t)

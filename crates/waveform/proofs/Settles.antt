@@ -2,8 +2,8 @@
 -- stays the same. In every envelope, whatever the hop limit.
 -- Assumes nothing.
 use Prim.Native.Nat.{ℕ, zero, suc, _+_, _-_, _≤_, _<_}
-use mathlib.Core.Bool.{Bool, true, false, cond}
-use mathlib.Core.List.{List, [], _∷_, foldl, foldl-append}
+use mathlib.Core.Bool.{true, false, cond}
+use mathlib.Core.List.{List}
 use mathlib.Core.Logic.{⊎-elim}
 use mathlib.Core.Path.{_≡_, refl, sym, subst, _∙_}
 use native.Mathlib.Nat.{eq-or-lt-of-le, le-of-suc-le-suc, not-suc-le-zero}
@@ -12,22 +12,21 @@ use lib.Dec.{eqb, ltb}
 use lib.ListN.{length, getD, List·getD-eq-default}
 use borrow.Author.Tests.{ltb-true, ltb-false, lt-ltb, le-ltb, ne-eqb}
 use borrow.Table.Steps.{cases}
-use Rattle.laws.specs.Turn.{inTurn, listBelow}
+use Rattle.laws.specs.Turn.{listBelow}
 use Rattle.laws.proofs.Below.{max-at}
 use Rattle.laws.proofs.Lists.{getD-any}
 use Rattle.laws.proofs.Turn.{list-long, list-at, turn-at}
-use Rattle.excitation.specs.Excitation.{TwoLevel, l, hl, lh, levelsOf}
-use Rattle.excitation.specs.UncertaintySet.{UncertaintySet, member, empty, single, joinSets, invertSet, heldBeforeSet, heldAfterSet, Held}
-use Rattle.excitation.proofs.Held.{join-held, invert-held, before-held, after-held}
+use Rattle.excitation.specs.Excitation.{l, hl, lh}
+use Rattle.excitation.specs.UncertaintySet.{UncertaintySet, member, empty, single, heldBeforeSet, heldAfterSet, Held}
+use Rattle.excitation.proofs.Held.{before-held, after-held}
 use Rattle.block.specs.Accepted.{AcceptedFile, GateRecord}
 use Rattle.block.specs.Block.{arrivalFrom, arrivals, arrival, latestPin, switchingTick}
-use Rattle.block.specs.Gate.{gateValue}
-use Rattle.block.specs.Kind.{kindOf, ruleOf}
-use Rattle.block.specs.Record.{File, kind, delay, pinCount, pin, isInput}
+use Rattle.block.specs.Record.{File, delay, pinCount, pin, isInput}
 use Rattle.block.proofs.Accepted.{arrival-at}
 use Rattle.fill.proofs.Filled.{filled-long, filled-not-before, filled-not-after, filled-settled}
-use Rattle.waveform.specs.Waveform.{Waveform, earlier, envelope, inputWaveform, gateFrom, pinWaveform, gateAt, gateWaveform, netWaveform, waveforms}
-use Rattle.waveform.proofs.Waveforms.{gate-same, net-input, net-gate}
+use Rattle.waveform.specs.Waveform.{Waveform, earlier, envelope, inputWaveform, pinWaveform, gateAt, gateWaveform, netWaveform, waveforms}
+use Rattle.waveform.proofs.Gates.{gate-same, from-held}
+use Rattle.waveform.proofs.Waveforms.{net-input, net-gate}
 
 -- A waveform that switches only from tick `first` to tick `last`, and stays the same after it.
 pub record Settles (first last : ℕ) (w : Waveform UncertaintySet) : Type 0 where
@@ -43,31 +42,6 @@ empty-held = record { no-hl = refl; no-lh = refl }
 
 past : (xs : List UncertaintySet) → length xs ≡ 256 → (t : ℕ) → 256 ≤ t → getD xs t empty ≡ empty
 past xs long t h = List·getD-eq-default xs empty (omega arith)
-
--- What a gate makes of pins that hold their levels holds its level.
-
-fold-held : (f : TwoLevel) (s : UncertaintySet) (n : ℕ) (g : ℕ → UncertaintySet) → Held s → ((p : ℕ) → p < n → Held (g p))
-    → Held (foldl (joinSets f) s (listBelow n g))
-unfolding listBelow inTurn
-fold-held f s zero g h k = h
-fold-held f s (suc n) g h k =
-    subst Held (sym (foldl-append (joinSets f) s (listBelow n g) (g n ∷ [])))
-    (join-held f _ _ (fold-held f s n g h (λ p l. k p (omega arith))) (k n (omega arith)))
-
-from-held : (hops : ℕ) (file : File) (net : ℕ) (g : ℕ → UncertaintySet) → 1 ≤ pinCount file net → ((p : ℕ) → p < pinCount file net → Held (g p))
-    → Held (gateFrom (envelope hops) file net g)
-unfolding gateFrom gateValue
-from-held hops file net g some h = go (ruleOf (kindOf (kind file net)) .inverts)
-  where
-    joined : UncertaintySet
-    joined = foldl (joinSets (levelsOf (ruleOf (kindOf (kind file net)) .join))) (g 0) (listBelow (pinCount file net - 1) (λ p. g (p + 1)))
-
-    held : Held joined
-    held = fold-held _ (g 0) (pinCount file net - 1) (λ p. g (p + 1)) (h 0 (omega arith)) (λ p l. h (p + 1) (omega arith))
-
-    go : (inverts : Bool) → Held (cond inverts (invertSet joined) joined)
-    go true = invert-held joined held
-    go false = held
 
 -- An input switches at its tick alone.
 pub input-settles : (hops switching : ℕ) (s : UncertaintySet) → switching < 256 → Settles 0 switching (inputWaveform (envelope hops) switching s)

@@ -1,24 +1,23 @@
 -- A simulation is the envelope of sets of one member with nothing filled: one engine serves both.
 -- Assumes nothing.
 use Prim.Native.Nat.{ℕ, zero, suc, _+_, _-_, _≤_}
-use mathlib.Core.Bool.{Bool, true, false, cond}
-use mathlib.Core.List.{List, [], _∷_, _++_, map, map-append, foldl}
+use mathlib.Core.Bool.{cond}
+use mathlib.Core.List.{List, [], _∷_, _++_, map, map-append}
 use mathlib.Core.Path.{_≡_, refl, ap, sym, _∙_, fun-ext}
 use lib.Dec.{eqb, ltb}
 use lib.ListN.{getD, List·getD-map}
 use borrow.Table.Steps.{cases}
 use Rattle.laws.specs.Turn.{inTurn, listBelow}
 use Rattle.laws.proofs.Turn.{list-long, list-at, list-is, list-map}
-use Rattle.excitation.specs.Excitation.{TwoLevel, l, levelsOf, joinExcitations, invertExcitation, heldBefore, heldAfter}
-use Rattle.excitation.specs.UncertaintySet.{UncertaintySet, single, joinSets, invertSet, heldBeforeSet, heldAfterSet}
+use Rattle.excitation.specs.Excitation.{l, heldBefore, heldAfter}
+use Rattle.excitation.specs.UncertaintySet.{UncertaintySet, single, heldBeforeSet, heldAfterSet}
 use Rattle.excitation.specs.declared.Excitation.{Excitation}
-use Rattle.excitation.proofs.OneMember.{join-single, each-single}
+use Rattle.excitation.proofs.OneMember.{each-single}
 use Rattle.block.specs.Block.{switchingTick}
-use Rattle.block.specs.Gate.{gateValue}
-use Rattle.block.specs.Kind.{kindOf, ruleOf}
-use Rattle.block.specs.Record.{File, kind, delay, pinCount, pin, isInput}
+use Rattle.block.specs.Record.{File, delay, pin, isInput}
 use Rattle.fill.proofs.Filled.{filled-none}
 use Rattle.waveform.specs.Waveform.{Waveform, earlier, simulation, envelope, inputWaveform, gateFrom, pinWaveform, gateAt, gateWaveform, netWaveform, waveforms}
+use Rattle.waveform.proofs.Gates.{from-single}
 use Rattle.waveform.proofs.Waveforms.{waveform-is, net-input, net-gate}
 
 -- The waveform of the sets whose one member is what a waveform has.
@@ -29,33 +28,7 @@ earlier-single : (d t : ℕ) (w : Waveform Excitation) → earlier d t (singles 
 unfolding earlier
 earlier-single d t w = cases (ltb t d) (λ b. rw b refl) (λ b. rw b (List·getD-map single (w .ticks) (t - d) (w .before)))
 
-fold-single : (f : TwoLevel) (a : Excitation) (bs : List Excitation) → foldl (joinSets f) (single a) (map single bs) ≡ single (foldl (joinExcitations f) a bs)
-fold-single f a [] = refl
-fold-single f a (b ∷ bs) =
-    ap (λ s. foldl (joinSets f) s (map single bs)) (join-single f a b) ∙ fold-single f (joinExcitations f a b) bs
-
 module _ (hops : ℕ) (enough : 128 ≤ hops) where
-  from-single : (file : File) (net : ℕ) (f : ℕ → Excitation)
-      → gateFrom (envelope hops) file net (λ p. single (f p)) ≡ single (gateFrom simulation file net f)
-  unfolding gateFrom gateValue
-  from-single file net f = go (ruleOf (kindOf (kind file net)) .inverts)
-    where
-      joins : TwoLevel
-      joins = levelsOf (ruleOf (kindOf (kind file net)) .join)
-
-      rest : List Excitation
-      rest = listBelow (pinCount file net - 1) (λ p. f (p + 1))
-
-      joined : foldl (joinSets joins) (single (f 0)) (listBelow (pinCount file net - 1) (λ p. single (f (p + 1)))) ≡ single (foldl (joinExcitations joins) (f 0) rest)
-      joined = ap (foldl (joinSets joins) (single (f 0))) (sym (list-map single (pinCount file net - 1) (λ p. f (p + 1)))) ∙ fold-single joins (f 0) rest
-
-      go : (inverts : Bool)
-          → cond inverts (invertSet (foldl (joinSets joins) (single (f 0)) (listBelow (pinCount file net - 1) (λ p. single (f (p + 1))))))
-          (foldl (joinSets joins) (single (f 0)) (listBelow (pinCount file net - 1) (λ p. single (f (p + 1)))))
-          ≡ single (cond inverts (invertExcitation (foldl (joinExcitations joins) (f 0) rest)) (foldl (joinExcitations joins) (f 0) rest))
-      go true = ap invertSet joined ∙ each-single invertExcitation (foldl (joinExcitations joins) (f 0) rest)
-      go false = joined
-
   input-single : (switching : ℕ) (e : Excitation) → inputWaveform (envelope hops) switching (single e) ≡ singles (inputWaveform simulation switching e)
   unfolding inputWaveform
   input-single switching e =
@@ -79,13 +52,13 @@ module _ (hops : ℕ) (enough : 128 ≤ hops) where
     unfolding gateAt
     at-single net t =
         ap (gateFrom (envelope hops) file net) (fun-ext (λ p. ap (earlier (delay file net) t) (pin-single net p) ∙ earlier-single (delay file net) t (pinWaveform simulation file vs net p)))
-        ∙ from-single file net (λ p. earlier (delay file net) t (pinWaveform simulation file vs net p))
+        ∙ from-single hops file net (λ p. earlier (delay file net) t (pinWaveform simulation file vs net p))
 
     gate-single : (net : ℕ) → gateWaveform (envelope hops) file (map singles vs) net ≡ singles (gateWaveform simulation file vs net)
     unfolding gateWaveform
     gate-single net =
         waveform-is _ _
-        (ap (gateFrom (envelope hops) file net) (fun-ext (λ p. ap (λ w. w .before) (pin-single net p))) ∙ from-single file net (λ p. pinWaveform simulation file vs net p .before))
+        (ap (gateFrom (envelope hops) file net) (fun-ext (λ p. ap (λ w. w .before) (pin-single net p))) ∙ from-single hops file net (λ p. pinWaveform simulation file vs net p .before))
         (filled-none hops (listBelow 256 (gateAt (envelope hops) file (map singles vs) net)) enough (list-long 256 _)
         ∙ list-is 256 (λ t. single (gateAt simulation file vs net t)) (single l) _ (list-long 256 _) (λ t h. list-at 256 _ t (single l) h ∙ at-single net t)
         ∙ sym (list-map single 256 (gateAt simulation file vs net)))

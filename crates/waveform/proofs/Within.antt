@@ -1,7 +1,7 @@
 -- A simulated waveform lies within the envelope's: what a net has in a simulation is a member, before tick 0 and at each tick, of what
 -- it has in the envelope of any case of which the pattern is a choice. Whatever the hop limit.
 -- Assumes nothing.
-use Prim.Native.Nat.{ℕ, zero, suc, _+_, _-_}
+use Prim.Native.Nat.{ℕ, zero, suc, _-_}
 use mathlib.Core.Bool.{Bool, true, false}
 use mathlib.Core.List.{List, Forall₂, Forall₂·nil, Forall₂·cons}
 use mathlib.Core.Path.{_≡_, sym, _∙_}
@@ -17,12 +17,11 @@ use Rattle.excitation.specs.declared.Excitation.{Excitation}
 use Rattle.excitation.proofs.OneMember.{member-single}
 use Rattle.excitation.proofs.Sets.{each-contains, same-self}
 use Rattle.block.specs.Block.{Choice, switchingTick}
-use Rattle.block.specs.Kind.{kindOf, ruleOf}
-use Rattle.block.specs.Record.{File, kind, delay, pinCount, pin, isInput}
-use Rattle.block.proofs.Gates.{gate-contains}
+use Rattle.block.specs.Record.{File, delay, pin, isInput}
 use Rattle.fill.specs.Fill.{filled}
 use Rattle.fill.proofs.Filled.{filled-long, filled-adds}
-use Rattle.waveform.specs.Waveform.{Waveform, earlier, simulation, envelope, inputWaveform, gateFrom, pinWaveform, gateAt, gateWaveform, netWaveform, waveforms}
+use Rattle.waveform.specs.Waveform.{Waveform, earlier, simulation, envelope, inputWaveform, pinWaveform, gateAt, gateWaveform, netWaveform, waveforms}
+use Rattle.waveform.proofs.Gates.{from-within}
 
 pub record Within (v : Waveform Excitation) (w : Waveform UncertaintySet) : Type 0 where
   pub before : v .before ∈ w .before
@@ -50,12 +49,6 @@ module _ (hops : ℕ) where
             (λ b. rw b (cases (eqb t switching) (λ c. rw c m) (λ c. rw c (each-contains heldAfter e s m)))));
       }
 
-  from-within : (file : File) (net : ℕ) (f : ℕ → Excitation) (g : ℕ → UncertaintySet) → ((p : ℕ) → f p ∈ g p)
-      → gateFrom simulation file net f ∈ gateFrom (envelope hops) file net g
-  unfolding gateFrom
-  from-within file net f g h =
-      gate-contains (ruleOf (kindOf (kind file net))) (f 0) (g 0) (h 0) (pairs-list _∈_ (pinCount file net - 1) _ _ (λ p q. h (p + 1)))
-
   -- Filling only adds.
   filled-contains : {es : List Excitation} {ss : List UncertaintySet} → length ss ≡ 256 → Forall₂ _∈_ es ss → Forall₂ _∈_ es (filled hops ss)
   filled-contains {es} {ss} long h =
@@ -69,12 +62,12 @@ module _ (hops : ℕ) where
 
     at-within : (net t : ℕ) → gateAt simulation file vs net t ∈ gateAt (envelope hops) file ws net t
     unfolding gateAt
-    at-within net t = from-within file net _ _ (λ p. earlier-within (delay file net) t _ _ (pin-within net p))
+    at-within net t = from-within hops file net _ _ (λ p. earlier-within (delay file net) t _ _ (pin-within net p))
 
     gate-within : (net : ℕ) → Within (gateWaveform simulation file vs net) (gateWaveform (envelope hops) file ws net)
     unfolding gateWaveform
     gate-within net = record {
-      before = from-within file net _ _ (λ p. pin-within net p .before);
+      before = from-within hops file net _ _ (λ p. pin-within net p .before);
       ticks = filled-contains (list-long 256 (gateAt (envelope hops) file ws net)) (pairs-list _∈_ 256 _ _ (λ t h. at-within net t));
     }
 
