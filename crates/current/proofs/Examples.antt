@@ -13,10 +13,10 @@ use Rattle.fill.specs.Runs.{extend, runsFrom, gapsAfter, gaps, shorter, shortes
 use Rattle.waveform.specs.Waveform.{earlier, inputWaveform, gateFrom, pinWaveform, gateAt, gateWaveform, netWaveform, waveforms}
 use Rattle.current.specs.Current.{ticksWhere, greatestAt, gateCurrent, drawsAt, part, contactCurrent, dropAt, dropOf, transitionsOf, sheetOf}
 use Rattle.current.specs.Examples.{CurrentExamples}
-use Rattle.current.specs.Pulse.{pulse, pulseAt}
+use Rattle.current.specs.Pulse.{levelAfter, pulse, pulseAt}
 
 pub current-examples : CurrentExamples
-unfolding maxBelow sumBelow countBelow inTurn listBelow member decode joinSets each isInput kindOf gateValue inputsBelow frame extend runsFrom gapsAfter gaps shorter shortest close closeFirst closeShortest closeWhile merged inside holding ticksInside fillTicks setsHolding filled earlier inputWaveform gateFrom pinWaveform gateAt gateWaveform netWaveform waveforms pulse pulseAt ticksWhere greatestAt gateCurrent drawsAt part contactCurrent dropAt dropOf transitionsOf sheetOf
+unfolding maxBelow sumBelow countBelow inTurn listBelow member decode joinSets each isInput kindOf gateValue inputsBelow frame extend runsFrom gapsAfter gaps shorter shortest close closeFirst closeShortest closeWhile merged inside holding ticksInside fillTicks setsHolding filled earlier inputWaveform gateFrom pinWaveform gateAt gateWaveform netWaveform waveforms levelAfter pulse pulseAt ticksWhere greatestAt gateCurrent drawsAt part contactCurrent dropAt dropOf transitionsOf sheetOf
 current-examples = record {
   pulse-31 = refl;
   pulse-7 = λ f. refl;

@@ -4,7 +4,8 @@ use Prim.Native.Nat.{ℕ, _+_, _*_, _/_, _≤_, _<_}
 use mathlib.Core.Path.{_≡_}
 use native.Mathlib.Nat.{le-div-iff-mul-le, div-lt-iff-lt-mul, div-mul-le-self, lt-div-mul-add, mul-assoc, mul-comm, mul-le-mul, mul-le-mul-left, mul-le-mul-right}
 use native.Mathlib.Omega.{arith}
-use Rattle.current.specs.Levels.{levelAfter, factorOf, levelBy}
+use Rattle.current.specs.Levels.{factorOf, levelBy}
+use Rattle.current.specs.Pulse.{levelAfter}
 
 -- A number times the factor, divided by 2³¹, is the number divided by the steps: the factor is above 2³¹ / steps by 1 at most, and for a
 -- number up to 2²³ that is too little to reach the next whole number.

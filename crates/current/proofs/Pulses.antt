@@ -7,18 +7,18 @@ use native.Mathlib.Omega.{arith}
 use lib.Dec.{leb, ltb, eqb}
 use borrow.Author.Tests.{le-leb, lt-leb, leb-true, leb-false, le-ltb, eqb-true, eqb-false}
 use borrow.Table.Steps.{cases}
-use Rattle.current.specs.Levels.{InRange, levelAfter, levelBy, Factored}
-use Rattle.current.specs.Pulse.{pulse, pulseAt}
+use Rattle.current.specs.Levels.{InRange, levelBy, Factored}
+use Rattle.current.specs.Pulse.{levelAfter, pulse, pulseAt}
 use Rattle.current.proofs.Levels.{level-by}
 
 -- A pulse by its parts.
 
 pulse-up : (P r f k : ℕ) → k ≤ r → pulse P r f k ≡ levelAfter P r k
-unfolding pulse levelAfter
+unfolding pulse
 pulse-up P r f k h = rw (le-leb k r h)
 
 pulse-down : (P r f k : ℕ) → r < k → k ≤ r + f → pulse P r f k ≡ levelAfter P f (r + f - k)
-unfolding pulse levelAfter
+unfolding pulse
 pulse-down P r f k h l = rw (lt-leb k r h, le-leb k (r + f) l)
 
 pulse-over : (P r f k : ℕ) → r + f < k → pulse P r f k ≡ 0

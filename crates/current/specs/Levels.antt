@@ -10,10 +10,6 @@ pub record InRange (P r f : ℕ) : Type 0 where
   pub fall-low : 1 ≤ f
   pub fall-high : f < 128
 
--- The level after j of the steps by which P is reached.
-unfoldable pub levelAfter : ℕ → ℕ → ℕ → ℕ
-levelAfter P steps j = P * j / steps
-
 -- The factor of a number of steps, and the level that the code takes by it: a number times the factor, divided by 2³¹, is the number
 -- divided by the steps.
 unfoldable pub factorOf : ℕ → ℕ
