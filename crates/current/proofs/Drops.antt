@@ -11,7 +11,7 @@ use Rattle.laws.proofs.Below.{max-next, max-same, max-at-most, max-within, max-
 use Rattle.current.specs.Current.{Sheet, dropAt, dropOf}
 use Rattle.current.specs.Drawing.{sheetIn, QuietFrom}
 use Rattle.current.specs.Sums.{withContact, Summed}
-use Rattle.current.specs.Words.{Written, wordOf}
+use Rattle.current.specs.Words.{WordsWritten, wordOf}
 use Rattle.current.proofs.Words.{zeros-at}
 
 -- A greater sheet drops no less, and sheets that agree drop the same.
@@ -44,7 +44,7 @@ product-fits {a} {b} h l =
     omega arith
 
 pub to-contact : (resistance : ℕ) (words : List ℕ) (start : ℕ) {from t current : ℕ} {sums sums′ : List ℕ}
-    → Written from t (withContact sums resistance words start) sums sums′ → current ≡ getD words (start + t) 0
+    → WordsWritten from t (withContact sums resistance words start) sums sums′ → current ≡ getD words (start + t) 0
     → getD sums′ t 0 + resistance * current ≡ withContact sums resistance words start t
 unfolding withContact
 to-contact resistance words start {t = t} written e = rw (e, written .above t (le-refl t)) refl
@@ -65,7 +65,7 @@ module _ {table words : List ℕ} {node busy : ℕ} where
         omega arith
 
     pub summed-next : (start : ℕ) {resistance : ℕ} {after : List ℕ} → resistance ≡ getD table (16 * node + n) 0
-        → Written 0 busy (withContact sums resistance words start) sums after → start ≡ 512 * n → Summed table words node busy (n + 1) after
+        → WordsWritten 0 busy (withContact sums resistance words start) sums after → start ≡ 512 * n → Summed table words node busy (n + 1) after
     unfolding withContact
     summed-next start e written place = record {
       long = written .long ∙ summed .long;

@@ -20,7 +20,7 @@ use Rattle.current.specs.Drawing.{transitionsIn, Drawable, Drawn}
 use Rattle.current.specs.Edges.{edgeOf, EdgeBit, holdsEdge, Seen, EdgesWithin, EdgesDrawn, GateCodes, RowDrawn}
 use Rattle.current.specs.Levels.{InRange}
 use Rattle.current.specs.Pulse.{pulseAt}
-use Rattle.current.specs.Words.{Written, withRow}
+use Rattle.current.specs.Words.{WordsWritten, withRow}
 use Rattle.current.proofs.Bits.{both-bits, held-after, held-unseen}
 use Rattle.current.proofs.Edges.{held-tick, tick-held, held-at-most}
 use Rattle.current.proofs.Pulses.{pulse-at-most, pulse-quiet}
@@ -146,7 +146,7 @@ module _ {file : File} {net last : ℕ} {codes words : List ℕ} (drawable : Dra
 
   module _ {start n : ℕ} {row after : List ℕ} (drawn : RowDrawn file net codes row) (short : n ≤ 512)
       (quiet : last + rise file net + fall file net < n + delay file net)
-      (added : Written start (start + n) (withRow words start row) words after) (place : start ≡ 512 * contact file net) where
+      (added : WordsWritten start (start + n) (withRow words start row) words after) (place : start ≡ 512 * contact file net) where
     row-at : (i : ℕ) → start ≤ i → i < start + n → getD after i 0 ≡ getD words i 0 + getD row (i - start) 0
     unfolding withRow
     row-at i low high = added .inside i low high

@@ -25,6 +25,8 @@ pulse-over : (P r f k : ℕ) → r + f < k → pulse P r f k ≡ 0
 unfolding pulse
 pulse-over P r f k l = rw (lt-leb k r (omega arith), lt-leb k (r + f) l)
 
+-- How the level goes with the steps and with the peak.
+
 level-rises : (P steps : ℕ) {j k : ℕ} → 1 ≤ steps → j ≤ k → levelAfter P steps j ≤ levelAfter P steps k
 unfolding levelAfter
 level-rises P steps {j} {k} one h = le-div-iff-mul-le one .1 (le-trans (div-mul-le-self (P * j) steps) (mul-le-mul-left P h))
@@ -43,10 +45,13 @@ level-none : (P steps j : ℕ) → j ≡ 0 → levelAfter P steps j ≡ 0
 unfolding levelAfter
 level-none P steps j e = rw e (ap (λ x. x / steps) (let z : P * 0 ≡ 0 = omega arith in z) ∙ zero-div steps)
 
+level-top : (P steps : ℕ) → 1 ≤ steps → levelAfter P steps steps ≡ P
+unfolding levelAfter
+level-top P steps one = mul-div-cancel P one
+
 module _ {P r f : ℕ} (range : InRange P r f) where
   pub pulse-top : pulse P r f r ≡ P
-  unfolding levelAfter
-  pulse-top = pulse-up P r f r (le-refl r) ∙ mul-div-cancel P (range .rise-low)
+  pulse-top = pulse-up P r f r (le-refl r) ∙ level-top P r (range .rise-low)
 
   pub pulse-ends : (k : ℕ) → r + f ≤ k → pulse P r f k ≡ 0
   pulse-ends k h =

@@ -12,24 +12,24 @@ use borrow.Table.Steps.{cases}
 use Rattle.current.specs.Levels.{InRange}
 use Rattle.current.specs.Pulse.{pulse, pulseAt}
 use Rattle.current.specs.Runs.{raisedToPulse, raisedTo, runPulse, RunDrawn}
-use Rattle.current.specs.Words.{Written, withRow}
+use Rattle.current.specs.Words.{WordsWritten, withRow}
 use Rattle.current.proofs.Pulses.{pulse-top, pulse-ends, pulse-most, pulse-rises, pulse-falls}
 
 -- The word that a loop writes next.
 
-pub to-pulse : (P r f start k : ℕ) {from level v : ℕ} {row row′ : List ℕ} → Written from (start + k) (raisedToPulse row P r f start) row row′
+pub to-pulse : (P r f start k : ℕ) {from level v : ℕ} {row row′ : List ℕ} → WordsWritten from (start + k) (raisedToPulse row P r f start) row row′
     → level ≡ pulse P r f k → v ≡ max (getD row′ (start + k) 0) level → v ≡ raisedToPulse row P r f start (start + k)
 unfolding raisedToPulse
 to-pulse P r f start k {row = row} w l e =
     e ∙ rw (l, w .above (start + k) (le-refl (start + k)))
     (ap (λ x. max (getD row (start + k) 0) (pulse P r f x)) (let z : k ≡ start + k - start = omega arith in z))
 
-pub to-level : (level : ℕ) {from t v : ℕ} {row row′ : List ℕ} → Written from t (raisedTo row level) row row′
+pub to-level : (level : ℕ) {from t v : ℕ} {row row′ : List ℕ} → WordsWritten from t (raisedTo row level) row row′
     → v ≡ max (getD row′ t 0) level → v ≡ raisedTo row level t
 unfolding raisedTo
 to-level level {t = t} w e = e ∙ ap (λ x. max x level) (w .above t (le-refl t))
 
-pub to-sum : (start : ℕ) (row : List ℕ) (t : ℕ) {from : ℕ} {words words′ : List ℕ} → Written from (start + t) (withRow words start row) words words′
+pub to-sum : (start : ℕ) (row : List ℕ) (t : ℕ) {from : ℕ} {words words′ : List ℕ} → WordsWritten from (start + t) (withRow words start row) words words′
     → getD words′ (start + t) 0 + getD row t 0 ≡ withRow words start row (start + t)
 unfolding withRow
 to-sum start row t {words = words} w =
@@ -105,9 +105,9 @@ module _ {P r f first last : ℕ} (range : InRange P r f) (ordered : first ≤ l
       rw (run-fall P r f first last t ordered l) (rw at at (each (D + last) (omega arith) (omega arith))))
       t
 
-  module _ {row risen level fallen : List ℕ} (rise : Written first (first + r) (raisedToPulse row P r f first) row risen)
-      (peak : Written (first + r) (last + r + 1) (raisedTo risen P) risen level)
-      (fall : Written (last + (r + 1)) (last + (r + f)) (raisedToPulse level P r f last) level fallen) where
+  module _ {row risen level fallen : List ℕ} (rise : WordsWritten first (first + r) (raisedToPulse row P r f first) row risen)
+      (peak : WordsWritten (first + r) (last + r + 1) (raisedTo risen P) risen level)
+      (fall : WordsWritten (last + (r + 1)) (last + (r + f)) (raisedToPulse level P r f last) level fallen) where
     -- The three parts of a run, drawn one after the other.
     pub run-drawn : RunDrawn P r f first last row fallen
     unfolding raisedToPulse raisedTo

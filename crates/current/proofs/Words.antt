@@ -9,7 +9,7 @@ use lib.ListN.{length, getD, set, replicate, length-set, length-replicate, getD-
 use lib.Seq.{getD-set-same, getD-set-other}
 use borrow.Author.Tests.{eqb-true, eqb-false, ltb-true, ltb-false}
 use borrow.Table.Steps.{cases}
-use Rattle.current.specs.Words.{Written, Cleared, noCurrent}
+use Rattle.current.specs.Words.{WordsWritten, Cleared, noCurrent}
 
 -- Words that are all 0.
 pub zeros-at : (n i : ℕ) → _≡_ {A = ℕ} (getD (replicate n 0) i 0) 0
@@ -18,13 +18,13 @@ zeros-at n i =
     (λ b. getD-replicate n i 0 0 (ltb-true i n b))
     (λ b. List·getD-eq-default (replicate n 0) 0 (rw (length-replicate {A = ℕ} n 0) (ltb-false i n b)))
 
-pub written-none : (from to : ℕ) (value : ℕ → ℕ) (words : List ℕ) → to ≤ from → Written from to value words words
+pub written-none : (from to : ℕ) (value : ℕ → ℕ) (words : List ℕ) → to ≤ from → WordsWritten from to value words words
 written-none from to value words h =
     record { long = refl; inside = λ i low high. absurd (omega arith); below = λ i h. refl; above = λ i h. refl }
 
-module _ {from to : ℕ} {value : ℕ → ℕ} {words after : List ℕ} (written : Written from to value words after) (v : ℕ) where
+module _ {from to : ℕ} {value : ℕ → ℕ} {words after : List ℕ} (written : WordsWritten from to value words after) (v : ℕ) where
   -- The word after the span.
-  pub written-next : from ≤ to → to < length words → v ≡ value to → (next : ℕ) → next ≡ to + 1 → Written from next value words (set after to v)
+  pub written-next : from ≤ to → to < length words → v ≡ value to → (next : ℕ) → next ≡ to + 1 → WordsWritten from next value words (set after to v)
   written-next h l e next n =
       let long = written .long in
       record {
@@ -37,7 +37,7 @@ module _ {from to : ℕ} {value : ℕ → ℕ} {words after : List ℕ} (written
         above = λ i a. getD-set-other after to i v 0 (λ q. omega arith) ∙ written .above i (omega arith);
       }
 
-pub cleared : {words after : List ℕ} → length words ≡ 8192 → Written 0 8192 noCurrent words after → Cleared after
+pub cleared : {words after : List ℕ} → length words ≡ 8192 → WordsWritten 0 8192 noCurrent words after → Cleared after
 cleared {words} {after} h written =
     let long : length after ≡ 8192 = written .long ∙ h in
     record {

@@ -5,7 +5,7 @@ use mathlib.Core.Path.{_≡_}
 use lib.ListN.{length, getD}
 
 -- Words written from place `from` to before place `to`; the others are as they were.
-pub record Written (from to : ℕ) (value : ℕ → ℕ) (words after : List ℕ) : Type 0 where
+pub record WordsWritten (from to : ℕ) (value : ℕ → ℕ) (words after : List ℕ) : Type 0 where
   pub long : length after ≡ length words
   pub inside : (i : ℕ) → from ≤ i → i < to → getD after i 0 ≡ value i
   pub below : (i : ℕ) → i < from → getD after i 0 ≡ getD words i 0

@@ -2,7 +2,7 @@
 ghost use mathlib.Core.Path.{_≡_};
 ghost use Prim.Native.Nat.{_+_, _≤_, _<_, max};
 ghost use lib.ListN.{length};
-ghost use Rattle.current.specs.Words.{Written};
+ghost use Rattle.current.specs.Words.{WordsWritten};
 ghost use Rattle.current.specs.Levels.{Factored};
 ghost use Rattle.current.specs.Runs.{raisedToPulse, raisedTo, RunDrawn};
 use super::Word;
@@ -21,7 +21,7 @@ fn greater(a: u32, b: u32) -> u32
 // The rise of a pulse that starts at tick `start`, up to before the peak.
 fn draw_rise(row: &mut [Word], pulse: Pulse, start: usize)
     requires { ⌜ (length (now row) ≡ 512) × Factored (pulse .peak) (pulse .rise) (pulse .fall) (pulse .rising) (pulse .falling) × (start < 256) ⌝ }
-    ensures { λ _. ⌜ Written start (start + pulse .rise) (raisedToPulse (now (row .entry)) (pulse .peak) (pulse .rise) (pulse .fall) start) (now (row .entry)) (now (row .exit)) ⌝ }
+    ensures { λ _. ⌜ WordsWritten start (start + pulse .rise) (raisedToPulse (now (row .entry)) (pulse .peak) (pulse .rise) (pulse .fall) start) (now (row .entry)) (now (row .exit)) ⌝ }
 {
     let mut k: usize = 0;
     while k < pulse.rise {
@@ -33,7 +33,7 @@ fn draw_rise(row: &mut [Word], pulse: Pulse, start: usize)
 // The fall of a pulse that starts at tick `start`, from after the peak.
 fn draw_fall(row: &mut [Word], pulse: Pulse, start: usize)
     requires { ⌜ (length (now row) ≡ 512) × Factored (pulse .peak) (pulse .rise) (pulse .fall) (pulse .rising) (pulse .falling) × (start < 256) ⌝ }
-    ensures { λ _. ⌜ Written (start + (pulse .rise + 1)) (start + (pulse .rise + pulse .fall)) (raisedToPulse (now (row .entry)) (pulse .peak) (pulse .rise) (pulse .fall) start) (now (row .entry)) (now (row .exit)) ⌝ }
+    ensures { λ _. ⌜ WordsWritten (start + (pulse .rise + 1)) (start + (pulse .rise + pulse .fall)) (raisedToPulse (now (row .entry)) (pulse .peak) (pulse .rise) (pulse .fall) start) (now (row .entry)) (now (row .exit)) ⌝ }
 {
     let end = pulse.rise + pulse.fall;
     let mut k = pulse.rise + 1;
@@ -46,7 +46,7 @@ fn draw_fall(row: &mut [Word], pulse: Pulse, start: usize)
 // A height from tick `from` to before tick `to`.
 fn draw_level(row: &mut [Word], from: usize, to: usize, height: u32)
     requires { ⌜ (length (now row) ≡ 512) × (from ≤ to) × (to ≤ 512) ⌝ }
-    ensures { λ _. ⌜ Written from to (raisedTo (now (row .entry)) height) (now (row .entry)) (now (row .exit)) ⌝ }
+    ensures { λ _. ⌜ WordsWritten from to (raisedTo (now (row .entry)) height) (now (row .entry)) (now (row .exit)) ⌝ }
 {
     let mut t = from;
     while t < to {

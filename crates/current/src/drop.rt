@@ -5,7 +5,7 @@ ghost use lib.ListN.{length};
 ghost use Rattle.laws.specs.Below.{maxBelow};
 ghost use Rattle.current.specs.Current.{dropAt, dropOf};
 ghost use Rattle.current.specs.Drawing.{sheetIn, QuietFrom};
-ghost use Rattle.current.specs.Words.{Written, wordOf};
+ghost use Rattle.current.specs.Words.{WordsWritten, wordOf};
 ghost use Rattle.current.specs.Sums.{withContact, SumsFit};
 use super::Word;
 
@@ -33,7 +33,7 @@ fn greater(a: u64, b: u64) -> u64
 // The part of one contact, whose row starts at word `start`, added to the sums of each tick before `busy`.
 fn add_contact(sums: &mut [u64], resistance: u64, sheet: &[Word], start: usize, busy: usize)
     requires { ⌜ SumsFit (now sums) resistance (now sheet) start busy ⌝ }
-    ensures { λ _. ⌜ Written 0 busy (withContact (now (sums .entry)) resistance (now (sheet .entry)) start) (now (sums .entry)) (now (sums .exit)) ⌝ }
+    ensures { λ _. ⌜ WordsWritten 0 busy (withContact (now (sums .entry)) resistance (now (sheet .entry)) start) (now (sums .entry)) (now (sums .exit)) ⌝ }
 {
     let mut t: usize = 0;
     while t < busy {

@@ -2,7 +2,7 @@
 ghost use mathlib.Core.Path.{_≡_};
 ghost use Prim.Native.Nat.{_+_};
 ghost use lib.ListN.{length};
-ghost use Rattle.current.specs.Words.{Written, withRow, RowFits, Cleared};
+ghost use Rattle.current.specs.Words.{WordsWritten, withRow, RowFits, Cleared};
 use super::Word;
 
 // A sheet with no current.
@@ -20,7 +20,7 @@ pub fn clear(sheet: &mut [Word])
 // A row added to words from place `start` on, n words of it.
 pub fn add_row(words: &mut [Word], start: usize, row: &[Word], n: usize)
     requires { ⌜ RowFits (now words) start (now row) n ⌝ }
-    ensures { λ _. ⌜ Written start (start + n) (withRow (now (words .entry)) start (now (row .entry))) (now (words .entry)) (now (words .exit)) ⌝ }
+    ensures { λ _. ⌜ WordsWritten start (start + n) (withRow (now (words .entry)) start (now (row .entry))) (now (words .entry)) (now (words .exit)) ⌝ }
 {
     let mut t: usize = 0;
     while t < n {

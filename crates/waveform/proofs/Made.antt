@@ -23,7 +23,7 @@ use Rattle.fill.specs.Codes.{Codes, setsOf, Settled, Filled}
 use Rattle.fill.specs.Fill.{filled}
 use Rattle.fill.proofs.Filled.{filled-settled}
 use Rattle.waveform.specs.Pins.{pinSample, GateSampled, Delayed}
-use Rattle.waveform.specs.Rows.{codeIn, waveformIn, waveformsIn, lastIn, latestIn, pinsLastIn, sampleIn, SettledAfter, SameAfter, LastChange, Written, Ready, GateMade, InputMade}
+use Rattle.waveform.specs.Rows.{codeIn, waveformIn, waveformsIn, lastIn, latestIn, pinsLastIn, sampleIn, SettledAfter, SameAfter, LastChange, RowWritten, Ready, GateMade, InputMade}
 use Rattle.waveform.specs.Waveform.{earlier, envelope, inputWaveform, gateFrom, pinWaveform, gateAt, gateWaveform}
 use Rattle.waveform.proofs.Settles.{input-settles}
 use Rattle.waveform.proofs.Gates.{gate-same}
@@ -42,14 +42,14 @@ unfolding waveformIn
 tick-in work net t d h = list-at 256 (λ t. decode (codeIn work net t)) t d h
 
 -- The ticks of a row that was written.
-written-ticks : (net before arrival last : ℕ) (codes work after : List ℕ) → length codes ≡ 256 → Written net before arrival last codes work after
+written-ticks : (net before arrival last : ℕ) (codes work after : List ℕ) → length codes ≡ 256 → RowWritten net before arrival last codes work after
     → setsOf codes ≡ waveformIn after net .ticks
 unfolding waveformIn
 written-ticks net before arrival last codes work after l w =
     sets-list codes (λ t. decode (codeIn after net t)) l (λ t h. ap decode (sym (w .ticks t h)))
 
 -- It settles as its codes do.
-written-settled : (net before arrival last : ℕ) (codes work after : List ℕ) → Written net before arrival last codes work after → SameAfter last codes
+written-settled : (net before arrival last : ℕ) (codes work after : List ℕ) → RowWritten net before arrival last codes work after → SameAfter last codes
     → SettledAfter last (waveformIn after net)
 written-settled net before arrival last codes work after w s = record {
   same = λ t h q. tick-is t q ∙ s .same t h q ∙ sym (tick-is 255 (omega arith));
@@ -163,14 +163,14 @@ module _ (file : File) (net : ℕ) (work : List ℕ) (ready : Ready file net wor
       ∙ gate-same (envelope hops) file net _ _ (ready .gate .pins-low) (λ p q. sample-before p ∙ ap (λ w. w .before) (sym (on-pin p q)))
 
   earliest-is : (arrival end : ℕ) (samples codes after : List ℕ) → GateSampled file net work (last + 3) samples
-      → Written net (getD samples 0 0) arrival end codes work after
+      → RowWritten net (getD samples 0 0) arrival end codes work after
       → waveformIn after net .before ≡ gateFrom (envelope hops) file net (λ p. pinWaveform (envelope hops) file (waveformsIn work net) net p .before)
   unfolding waveformIn
   earliest-is arrival end samples codes after g w = ap decode (w .earliest) ∙ before-is samples g
 
   pub gate-made : (arrival end : ℕ) (samples raw codes after : List ℕ) → GateSampled file net work (last + 3) samples → Delayed D last samples raw
       → Filled hops raw codes → arrival ≡ latestIn file work net + D → LastChange arrival codes end
-      → Written net (getD samples 0 0) arrival end codes work after → GateMade file net hops work after codes
+      → RowWritten net (getD samples 0 0) arrival end codes work after → GateMade file net hops work after codes
   unfolding gateWaveform
   gate-made arrival end samples raw codes after g d f a c w =
       let ticks = written-ticks net (getD samples 0 0) arrival end codes work after (f .codes .long) w in
@@ -233,7 +233,7 @@ module _ (switching given : ℕ) (codes first after : List ℕ) (in-time : switc
       (λ s. rw s (decode-code _))
       (λ s. rw s (cases (eqb t switching) (λ r. rw r refl) (λ r. rw r (decode-code _))))
 
-  made-waveform : (net : ℕ) (work written : List ℕ) → Written net (code (heldBeforeSet (decode given))) switching switching after work written
+  made-waveform : (net : ℕ) (work written : List ℕ) → RowWritten net (code (heldBeforeSet (decode given))) switching switching after work written
       → (hops : ℕ) → waveformIn written net ≡ inputWaveform (envelope hops) switching (decode given)
   unfolding waveformIn inputWaveform
   made-waveform net work written w hops =
@@ -241,7 +241,7 @@ module _ (switching given : ℕ) (codes first after : List ℕ) (in-time : switc
       (sym (written-ticks net (code (heldBeforeSet (decode given))) switching switching after work written (v .long ∙ second-long) w)
       ∙ sets-list after _ (v .long ∙ second-long) (λ t h. ap decode (input-code t h) ∙ input-set t))
 
-  pub input-made : (net : ℕ) (work written : List ℕ) → Written net (code (heldBeforeSet (decode given))) switching switching after work written
+  pub input-made : (net : ℕ) (work written : List ℕ) → RowWritten net (code (heldBeforeSet (decode given))) switching switching after work written
       → InputMade net switching given work written
   input-made net work written w =
       let made = made-waveform net work written w in

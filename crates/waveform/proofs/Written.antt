@@ -12,7 +12,7 @@ use borrow.Author.Tests.{ltb-true, ltb-false}
 use borrow.Table.Steps.{cases}
 use Rattle.laws.specs.Rewritten.{Rewritten}
 use Rattle.fill.specs.Codes.{Codes}
-use Rattle.waveform.specs.Rows.{rowByte, codeIn, HasRow, Written}
+use Rattle.waveform.specs.Rows.{rowByte, codeIn, HasRow, RowWritten}
 
 -- A place outside the row of a net lies before it or after it.
 outside : (net other k : ℕ) → (other ≡ net → ⊥) → k < 160 → (160 * other + k < 160 * net) ⊎ (160 * net + 160 ≤ 160 * other + k)
@@ -61,7 +61,7 @@ module _ (net before arrival last : ℕ) (codes work packed : List ℕ) (coded :
       (λ z. ⊎-elim (λ l. omega arith) (λ l. omega arith) out)
       ∙ p .rest (160 * other + k) (⊎-elim (λ l. inl l) (λ l. inr (omega arith)) out)
 
-  pub written : Written net before arrival last codes work whole
+  pub written : RowWritten net before arrival last codes work whole
   written = record {
     others = record { long = length-set twice (160 * net + 130) last ∙ twice-long; kept = kept };
     ticks = code-at;

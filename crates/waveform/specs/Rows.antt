@@ -72,7 +72,7 @@ pub record OthersKept (net : ℕ) (work after : List ℕ) : Type 0 where
   pub kept : (other k : ℕ) → (other ≡ net → ⊥) → k < 160 → rowByte after other k ≡ rowByte work other k
 
 -- The buffer after the waveform of a net was written.
-pub record Written (net before arrival last : ℕ) (codes work after : List ℕ) : Type 0 where
+pub record RowWritten (net before arrival last : ℕ) (codes work after : List ℕ) : Type 0 where
   pub others : OthersKept net work after
   pub ticks : (t : ℕ) → t < 256 → codeIn after net t ≡ getD codes t 0
   pub earliest : rowByte after net 128 ≡ before

@@ -6,7 +6,7 @@ ghost use Prim.Native.Nat.{_+_, _*_, _≤_, _<_};
 ghost use lib.ListN.{length, getD};
 ghost use Rattle.laws.specs.Rewritten.{Rewritten};
 ghost use Rattle.fill.specs.Codes.{Codes};
-ghost use Rattle.waveform.specs.Rows.{HasRow, arrivalIn, lastIn, Unpacked, Written};
+ghost use Rattle.waveform.specs.Rows.{HasRow, arrivalIn, lastIn, Unpacked, RowWritten};
 use block::Net;
 
 // Where the row of a net starts.
@@ -74,7 +74,7 @@ fn pack(work: &mut [u8], at: usize, codes: &[u8])
 // Writes the row of a net.
 pub fn write(work: &mut [u8], net: Net, codes: &[u8], before: u8, arrival: u8, last: u8)
     requires { ⌜ HasRow (now work) (net .0) × Codes (now codes) ⌝ }
-    ensures { λ _. ⌜ Written (net .0) before arrival last (now (codes .entry)) (now (work .entry)) (now (work .exit)) ⌝ }
+    ensures { λ _. ⌜ RowWritten (net .0) before arrival last (now (codes .entry)) (now (work .entry)) (now (work .exit)) ⌝ }
 {
     let at = start(net);
     pack(work, at, codes);

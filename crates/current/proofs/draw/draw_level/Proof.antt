@@ -5,14 +5,14 @@ use mathlib.Core.Path.{_≡_}
 use native.Mathlib.Omega.{arith}
 use borrow.Author.Needs.{needs}
 use Rattle.current.specs.Runs.{raisedTo}
-use Rattle.current.specs.Words.{Written}
+use Rattle.current.specs.Words.{WordsWritten}
 use Rattle.current.proofs.Rows.{to-level}
 use Rattle.current.proofs.Words.{written-none, written-next}
 use Rattle.current.proofs.draw.draw_level.Statement.{statement}
 use Rattle.current.proofs.draw.draw_level.Tie as tie
 
 abbrev Inv-loop : tie.InvT-loop
-Inv-loop row₀ from to height t₀ row t = (from ≤ t) × (t ≤ to) × Written from t (raisedTo row₀ height) row₀ row
+Inv-loop row₀ from to height t₀ row t = (from ≤ t) × (t ≤ to) × WordsWritten from t (raisedTo row₀ height) row₀ row
 
 abbrev μ-loop : tie.MeasureT-loop
 μ-loop row₀ from to height t₀ row t = to - t

@@ -5,7 +5,7 @@ use mathlib.Core.Path.{_≡_}
 use native.Mathlib.Omega.{arith}
 use borrow.Author.Needs.{needs}
 use Rattle.current.specs.Runs.{raisedToPulse}
-use Rattle.current.specs.Words.{Written}
+use Rattle.current.specs.Words.{WordsWritten}
 use Rattle.current.proofs.Pulses.{rise-level}
 use Rattle.current.proofs.Rows.{to-pulse}
 use Rattle.current.proofs.Words.{written-none, written-next}
@@ -13,7 +13,7 @@ use Rattle.current.proofs.draw.draw_rise.Statement.{statement}
 use Rattle.current.proofs.draw.draw_rise.Tie as tie
 
 abbrev Inv-loop : tie.InvT-loop
-Inv-loop row₀ pulse start k₀ row k = (k ≤ pulse .rise) × Written start (start + k) (raisedToPulse row₀ (pulse .peak) (pulse .rise) (pulse .fall) start) row₀ row
+Inv-loop row₀ pulse start k₀ row k = (k ≤ pulse .rise) × WordsWritten start (start + k) (raisedToPulse row₀ (pulse .peak) (pulse .rise) (pulse .fall) start) row₀ row
 
 abbrev μ-loop : tie.MeasureT-loop
 μ-loop row₀ pulse start k₀ row k = pulse .rise - k

@@ -5,14 +5,14 @@ use mathlib.Core.Path.{_≡_, refl}
 use native.Mathlib.Omega.{arith}
 use borrow.Author.Needs.{needs}
 use Rattle.current.specs.Sums.{withContact}
-use Rattle.current.specs.Words.{Written}
+use Rattle.current.specs.Words.{WordsWritten}
 use Rattle.current.proofs.Drops.{product-fits, to-contact}
 use Rattle.current.proofs.Words.{written-none, written-next}
 use Rattle.current.proofs.drop.add_contact.Statement.{statement}
 use Rattle.current.proofs.drop.add_contact.Tie as tie
 
 abbrev Inv-loop : tie.InvT-loop
-Inv-loop sums₀ resistance sheet start busy t₀ sums t = (t ≤ busy) × Written 0 t (withContact sums₀ resistance sheet start) sums₀ sums
+Inv-loop sums₀ resistance sheet start busy t₀ sums t = (t ≤ busy) × WordsWritten 0 t (withContact sums₀ resistance sheet start) sums₀ sums
 
 abbrev μ-loop : tie.MeasureT-loop
 μ-loop sums₀ resistance sheet start busy t₀ sums t = busy - t

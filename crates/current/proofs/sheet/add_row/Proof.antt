@@ -4,14 +4,14 @@ use Prim.Native.Nat.{_+_, _-_, _≤_}
 use mathlib.Core.Path.{_≡_}
 use native.Mathlib.Omega.{arith}
 use borrow.Author.Needs.{needs}
-use Rattle.current.specs.Words.{Written, withRow}
+use Rattle.current.specs.Words.{WordsWritten, withRow}
 use Rattle.current.proofs.Rows.{to-sum}
 use Rattle.current.proofs.Words.{written-none, written-next}
 use Rattle.current.proofs.sheet.add_row.Statement.{statement}
 use Rattle.current.proofs.sheet.add_row.Tie as tie
 
 abbrev Inv-loop : tie.InvT-loop
-Inv-loop words₀ start row n t₀ words t = (t ≤ n) × Written start (start + t) (withRow words₀ start row) words₀ words
+Inv-loop words₀ start row n t₀ words t = (t ≤ n) × WordsWritten start (start + t) (withRow words₀ start row) words₀ words
 
 abbrev μ-loop : tie.MeasureT-loop
 μ-loop words₀ start row n t₀ words t = n - t

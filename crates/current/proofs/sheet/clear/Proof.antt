@@ -4,13 +4,13 @@ use Prim.Native.Nat.{_-_, _≤_}
 use mathlib.Core.Path.{_≡_, refl}
 use native.Mathlib.Omega.{arith}
 use borrow.Author.Needs.{needs}
-use Rattle.current.specs.Words.{Written, noCurrent}
+use Rattle.current.specs.Words.{WordsWritten, noCurrent}
 use Rattle.current.proofs.Words.{written-none, written-next, cleared}
 use Rattle.current.proofs.sheet.clear.Statement.{statement}
 use Rattle.current.proofs.sheet.clear.Tie as tie
 
 abbrev Inv-loop : tie.InvT-loop
-Inv-loop sheet₀ i₀ sheet i = (i ≤ 8192) × Written 0 i noCurrent sheet₀ sheet
+Inv-loop sheet₀ i₀ sheet i = (i ≤ 8192) × WordsWritten 0 i noCurrent sheet₀ sheet
 
 abbrev μ-loop : tie.MeasureT-loop
 μ-loop sheet₀ i₀ sheet i = 8192 - i

@@ -6,7 +6,7 @@ use lib.ListN.{set, replicate, length-set, length-replicate}
 use borrow.Author.Needs.{needs}
 use Rattle.laws.specs.Rewritten.{Rewritten}
 use Rattle.excitation.specs.UncertaintySet.{code, decode, heldBeforeSet, heldAfterSet}
-use Rattle.waveform.specs.Rows.{Written}
+use Rattle.waveform.specs.Rows.{RowWritten}
 use Rattle.waveform.proofs.Made.{input-codes, input-made}
 use Rattle.waveform.proofs.input.input_waveform.Statement.{statement}
 use Rattle.waveform.proofs.input.input_waveform.Tie as tie
@@ -72,7 +72,7 @@ returns c =
     let u : Rewritten (λ k. code (heldBeforeSet (decode given))) 0 (switching - 0) (replicate 256 0) first = rw (before, tick) at (c .before .before .before .before .before .before .before .before .before .hold .ensures) in
     let v : Rewritten (λ k. code (heldAfterSet (decode given))) (switching + 1) (256 - (switching + 1)) (set first switching given) third = rw (after, tick) at (c .before .before .before .before .before .before .hold2 .ensures) in
     let in-time : switching < 256 = omega (arith, c .before .before .before .before .before .before .before .before .before .before .before .wide .ensures) in
-    let w : Written (s .args .net .0) (code (heldBeforeSet (decode given))) switching switching third (s .args .work .now) (c .before .before .write .last .0) = rw before at (c .before .before .write .ensures) in
+    let w : RowWritten (s .args .net .0) (code (heldBeforeSet (decode given))) switching switching third (s .args .work .now) (c .before .before .write .last .0) = rw before at (c .before .before .write .ensures) in
     input-made switching given (replicate 256 0) first third in-time (s .pre .1) (length-replicate {A = ℕ} 256 0) u v (s .args .net .0) (s .args .work .now) _ w
 
 pub input-waveform-spec : {M : Type 1} → statement M
