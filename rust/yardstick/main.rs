@@ -4,13 +4,11 @@
 //! Built by `run`, which says where the yardstick is. The argument is the folder of its blocks.
 
 use std::env;
-use std::fs;
 use std::path::Path;
 
 use baseline::fast;
 use check::implementation::{Implementation, LIBRARY, SECOND};
-use check::measure::{compare, compare_searches, full_blocks};
-use check::sample::{Arguments, Random};
+use check::measure::{bench_block, compare, compare_searches, full_blocks};
 use zimgurav::{Counts, Currents, Found, Outcome, Refusal};
 
 const YARDSTICK: Implementation =
@@ -100,20 +98,6 @@ fn refusal(refusal: baseline::Refusal) -> Refusal {
         number: refusal.number.into(),
         place: refusal.place.into(),
     }
-}
-
-/// The yardstick's own block and table, with 10 hops, ratio 1,000 and a random pattern.
-fn bench_block(folder: &Path) -> Arguments {
-    let read = |name| fs::read(folder.join(name)).expect("a file of the yardstick");
-    let file = read("bench.blk");
-    let (block, _) = file.as_chunks::<20>();
-    let mut arguments = Arguments::random(&mut Random::new(1), block);
-    arguments.hop_limit = 10;
-    arguments.ratio = 1_000;
-    let table = read("bench.tab");
-    let (words, _) = table.as_chunks::<2>();
-    arguments.table = words.iter().copied().map(u16::from_le_bytes).collect();
-    arguments
 }
 
 fn main() {

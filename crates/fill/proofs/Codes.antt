@@ -25,7 +25,7 @@ use Rattle.fill.specs.Filling.{ticksOf, Added, runsOf}
 use Rattle.fill.specs.Runs.{Gap, gap, runsFrom, runs}
 use Rattle.fill.specs.Scan.{begun, changes, scanned, shortestGap}
 use Rattle.fill.proofs.Filled.{length-holding, holding-at}
-use Rattle.fill.proofs.Scans.{SameFrom, begun-runs, begun-take, scanned-shortest, scanned-take, changes-take, runs-changes}
+use Rattle.fill.proofs.Scans.{SameFrom, begun-runs, begun-take, scanned-shortest, scanned-take, changes-take, changes-few, runs-changes}
 
 -- An excitation added to a set, by one computed test over the codes of all sets.
 
@@ -96,6 +96,11 @@ all-changes last [] same e = omega arith
 all-changes last (c ∷ later) same e =
     let few = runs-changes (λ c. member e (decode c)) c later in
     omega (arith, few, ap (λ held. length (runs held)) (ticks-map e (c ∷ later)), changes-take last c later same)
+
+few-changes : (last : ℕ) (codes : List ℕ) → SameFrom 0 last codes → (e : Excitation) → 2 * length (runsOf e codes) ≤ last + 2
+unfolding ticksOf holding setsOf runsFrom
+few-changes last [] same e = omega arith
+few-changes last (c ∷ later) same e = omega (arith, all-changes last (c ∷ later) same e, changes-few last c later)
 
 -- The codes of a gate, which are the same from tick `last` on.
 module _ (last : ℕ) (codes : List ℕ) (fine : Codes codes) (settled : Settled last codes) where
@@ -188,3 +193,6 @@ module _ (last : ℕ) (codes : List ℕ) (fine : Codes codes) (settled : Settled
       ap (λ k. changes (getD codes t 0) (slice (k + 1) (last + 1) codes)) at ∙ ap (changes (getD codes t 0)) (slice-empty (last + 1) codes) in
       let all = ap (λ k. changes (getD codes 0 0) (slice 1 k codes)) (add-one last) in
       omega (arith, all, all-changes last codes same-codes e)
+
+  pub settled-few : (e : Excitation) → 2 * length (runsOf e codes) ≤ last + 2
+  settled-few = few-changes last codes same-codes

@@ -183,6 +183,17 @@ changes-take (suc last) before [] same = refl
 changes-take (suc last) before (code ∷ later) same =
     ap (λ n. digit (not (eqb before code)) + n) (changes-take last code later (rest-same-from 0 last before (code ∷ later) same))
 
+-- There are no more changes than ticks.
+pub changes-few : (n before : ℕ) (codes : List ℕ) → changes before (take n codes) ≤ n
+unfolding changes
+changes-few zero before codes = omega arith
+changes-few (suc n) before [] = omega arith
+changes-few (suc n) before (code ∷ later) = omega (arith, few (not (eqb before code)), changes-few n code later)
+  where
+    few : (b : Bool) → digit b ≤ 1
+    few true = omega arith
+    few false = omega arith
+
 -- A run that begins after a tick takes two changes: one before it, one at its own beginning. The first may begin without any.
 
 module _ (holds : ℕ → Bool) where

@@ -153,11 +153,15 @@ fn count_changes(codes: &[u8], last: usize) -> u8
     changes
 }
 
-// Fills the sets of a gate, which are the same from tick `last` on, to the hop limit.
+// Fills the sets of a gate, which are the same from tick `last` on, to the hop limit. They change at most `last` times, so that
+// nothing has to be counted where `last` is small.
 pub fn fill(codes: &mut [u8], hops: usize, last: usize)
     requires { ⌜ Codes (now codes) × (1 ≤ hops) × Settled last (now codes) ⌝ }
     ensures { λ _. ⌜ Filled hops (now (codes .entry)) (now (codes .exit)) ⌝ }
 {
+    if last / 2 < hops {
+        return;
+    }
     let changes = count_changes(codes, last) as usize;
     if changes / 2 < hops {
         return;

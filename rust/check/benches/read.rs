@@ -1,9 +1,10 @@
 //! The time of Read on full blocks: the library beside the second implementation.
 
 use std::hint::black_box;
-use std::time::{Duration, Instant};
+use std::time::Duration;
 
 use check::kind::{BUF, NOT};
+use check::measure::{median, ratio, thread_time};
 use check::sample::{gate, input, Random, Record, Shape};
 use check::second;
 use zimgurav::{read, Counts, Refusal};
@@ -32,17 +33,12 @@ fn chains() -> Vec<Record> {
 
 /// The time of one read, taken over several.
 fn time(read: impl Fn(&[u8]) -> Result<Counts, Refusal>, file: &[u8]) -> Duration {
-    let start = Instant::now();
+    let start = thread_time();
     for _ in 0..READS {
         let answer = read(black_box(file));
         assert!(black_box(answer).is_ok());
     }
-    start.elapsed() / READS
-}
-
-fn median(mut times: Vec<Duration>) -> Duration {
-    times.sort();
-    times[times.len() / 2]
+    (thread_time() - start) / READS
 }
 
 /// Times both in turn, so that what slows the machine slows both.
@@ -51,7 +47,7 @@ fn compare(name: &str, block: &[Record]) {
     let rounds = (0..ROUNDS).map(|_| (time(read, &file), time(second::read, &file)));
     let (library, second): (Vec<_>, Vec<_>) = rounds.unzip();
     let (library, second) = (median(library), median(second));
-    let ratio = library.as_secs_f64() / second.as_secs_f64();
+    let ratio = ratio(library, second);
     println!("read, {name}: library {library:.2?}, second {second:.2?}, ratio {ratio:.2}");
 }
 

@@ -1,0 +1,29 @@
+//! Calls one operation of the library once, for a profile.
+//!
+//! The arguments are the folder of `bench.blk` and `bench.tab` and `envelope`, `simulate` or `search`; of
+//! a search also the budget.
+
+use std::env;
+use std::path::Path;
+
+use check::implementation::LIBRARY;
+use check::measure::bench_block;
+
+fn main() {
+    let words: Vec<String> = env::args().skip(1).collect();
+    let words: Vec<&str> = words.iter().map(String::as_str).collect();
+    let [folder, operation @ ..] = &words[..] else {
+        panic!("the folder of the block");
+    };
+    let mut arguments = bench_block(Path::new(folder));
+    let accepted = match operation {
+        ["envelope"] => LIBRARY.envelope(&mut arguments).is_ok(),
+        ["simulate"] => LIBRARY.simulate(&mut arguments).is_ok(),
+        ["search", budget] => {
+            arguments = arguments.with_budget(budget.parse().expect("a number"));
+            LIBRARY.search(&mut arguments).is_ok()
+        }
+        _ => panic!("an operation"),
+    };
+    assert!(accepted, "accepted");
+}
