@@ -22,7 +22,7 @@ use Rattle.block.specs.Record.{File, delay, pinCount, pin}
 use Rattle.fill.specs.Codes.{Codes, setsOf, Settled, Filled}
 use Rattle.fill.specs.Fill.{filled}
 use Rattle.fill.proofs.Filled.{filled-settled}
-use Rattle.waveform.specs.Pins.{pinSample, GateSampled, Delayed}
+use Rattle.waveform.specs.Pins.{pinSample, NetSampled, Delayed}
 use Rattle.waveform.specs.Rows.{codeIn, waveformIn, waveformsIn, lastIn, latestIn, pinsLastIn, sampleIn, SettledAfter, SameAfter, LastChange, RowWritten, Ready, GateMade, InputMade}
 use Rattle.waveform.specs.Waveform.{earlier, envelope, inputWaveform, gateFrom, pinWaveform, gateAt, gateWaveform}
 use Rattle.waveform.proofs.Settles.{input-settles}
@@ -147,7 +147,7 @@ module _ (file : File) (net : ℕ) (work : List ℕ) (ready : Ready file net wor
       ∙ sym (tick-in work (pin file net p) (t - D) (w .before) (omega arith))))))
 
   -- The codes made from the samples are those of the gate's raw sets.
-  raw-is : (samples codes : List ℕ) → GateSampled file net work (last + 3) samples → Delayed D last samples codes
+  raw-is : (samples codes : List ℕ) → NetSampled file net work (last + 3) samples → Delayed D last samples codes
       → setsOf codes ≡ listBelow 256 (gateAt (envelope hops) file (waveformsIn work net) net)
   unfolding gateAt
   raw-is samples codes g d =
@@ -156,19 +156,19 @@ module _ (file : File) (net : ℕ) (work : List ℕ) (ready : Ready file net wor
       ∙ gate-same (envelope hops) file net _ _ (ready .gate .pins-low)
       (λ p q. pin-earlier t p h q ∙ ap (earlier D t) (sym (on-pin p q))))
 
-  before-is : (samples : List ℕ) → GateSampled file net work (last + 3) samples
+  before-is : (samples : List ℕ) → NetSampled file net work (last + 3) samples
       → decode (getD samples 0 0) ≡ gateFrom (envelope hops) file net (λ p. pinWaveform (envelope hops) file (waveformsIn work net) net p .before)
   before-is samples g =
       g hops .at 0 (omega arith)
       ∙ gate-same (envelope hops) file net _ _ (ready .gate .pins-low) (λ p q. sample-before p ∙ ap (λ w. w .before) (sym (on-pin p q)))
 
-  earliest-is : (arrival end : ℕ) (samples codes after : List ℕ) → GateSampled file net work (last + 3) samples
+  earliest-is : (arrival end : ℕ) (samples codes after : List ℕ) → NetSampled file net work (last + 3) samples
       → RowWritten net (getD samples 0 0) arrival end codes work after
       → waveformIn after net .before ≡ gateFrom (envelope hops) file net (λ p. pinWaveform (envelope hops) file (waveformsIn work net) net p .before)
   unfolding waveformIn
   earliest-is arrival end samples codes after g w = ap decode (w .earliest) ∙ before-is samples g
 
-  pub gate-made : (arrival end : ℕ) (samples raw codes after : List ℕ) → GateSampled file net work (last + 3) samples → Delayed D last samples raw
+  pub gate-made : (arrival end : ℕ) (samples raw codes after : List ℕ) → NetSampled file net work (last + 3) samples → Delayed D last samples raw
       → Filled hops raw codes → arrival ≡ latestIn file work net + D → LastChange arrival codes end
       → RowWritten net (getD samples 0 0) arrival end codes work after → GateMade file net hops work after codes
   unfolding gateWaveform

@@ -20,12 +20,15 @@ use Rattle.excitation.specs.declared.Join.{Join}
 use Rattle.excitation.proofs.Codes.{code-below, decode-code}
 use Rattle.block.specs.Gate.{gateValue}
 use Rattle.block.specs.Kind.{kindOf, ruleOf}
-use Rattle.block.specs.Record.{File, kind, pinCount, pin}
+use Rattle.block.proofs.Views.{pin-read}
+use Rattle.block.specs.Accepted.{GateRecord}
+use Rattle.block.specs.declared.Gate.{Gate}
+use Rattle.block.specs.Record.{GateRead, pinOf, File, kind, pinCount, pin}
 use Rattle.block.specs.declared.kind.Rule.{Rule}
 use Rattle.fill.specs.Codes.{Codes, Settled}
-use Rattle.waveform.specs.Pins.{pinSample, joinedSample, Sampled, RowJoined, PinsJoined, Inverted, GateSampled, Delayed}
+use Rattle.waveform.specs.Pins.{pinSample, joinedSample, ruledSample, gateSample, Sampled, RowJoined, PinsJoined, Inverted, GateSampled, NetSampled, Delayed}
 use Rattle.waveform.specs.Rows.{Unpacked, sampleIn}
-use Rattle.waveform.specs.Waveform.{gateFrom}
+use Rattle.waveform.specs.Waveform.{envelope, gateFrom}
 
 module _ (netOf : ℕ → ℕ) (work : List ℕ) (by : Join) where
   -- One pin more is joined.
@@ -59,29 +62,12 @@ module _ (netOf : ℕ → ℕ) (work : List ℕ) (by : Join) where
     at = λ k l. ap decode (w .at k l) ∙ decode-code _ ∙ rw (s .at k l) (sym (joined-next p k o));
   }
 
--- The pins of a gate that was read from its record are joined as the record's.
-pub pins-joined : (file : File) (net : ℕ) (work : List ℕ) (by : Join) (netOf : ℕ → ℕ) (n pins : ℕ) (samples : List ℕ)
-    → ((p : ℕ) → p < pins → netOf p ≡ pin file net p) → pins ≡ pinCount file net → 1 ≤ pinCount file net
-    → Sampled (joinedSample netOf work by pins) n samples → PinsJoined file net work by n samples
-unfolding joinedSample pinSample
-pins-joined file net work by netOf n pins samples same e h s = record {
-  long = s .long;
-  low = s .low;
-  at = λ k l. s .at k l ∙ ap (λ m. joinedSample netOf work by m k) e ∙ joined k;
-}
-  where
-    joined : (k : ℕ) → joinedSample netOf work by (pinCount file net) k ≡ joinedSample (pin file net) work by (pinCount file net) k
-    joined k =
-        let rest = list-same (pinCount file net - 1) (λ p. decode (sampleIn work (netOf (p + 1)) k)) (λ p. decode (sampleIn work (pin file net (p + 1)) k)) empty
-        (λ p l. ap (λ m. decode (sampleIn work m k)) (same (p + 1) (omega (arith, e)))) in
-        rw (same 0 (omega (arith, e)), rest) refl
-
 -- The join turned over for a kind that inverts is what the gate makes of its pins.
-pub gate-sampled : (file : File) (net : ℕ) (work : List ℕ) (rule : Rule) (n : ℕ) (samples after : List ℕ) → rule ≡ ruleOf (kindOf (kind file net))
-    → PinsJoined file net work (rule .join) n samples → Inverted (rule .inverts) n samples after → GateSampled file net work n after
-unfolding gateFrom gateValue joinedSample
-gate-sampled file net work rule n samples after e s i hops =
-    rw (sym e)
+pub gate-sampled : (gate : Gate) (work : List ℕ) (rule : Rule) (n : ℕ) (samples after : List ℕ) → rule ≡ ruleOf (kindOf (gate .kind))
+    → PinsJoined gate work (rule .join) n samples → Inverted (rule .inverts) n samples after → GateSampled gate work n after
+unfolding ruledSample
+gate-sampled gate work rule n samples after e s i =
+    subst (λ r. Sampled (ruledSample r gate work) n after) e
     record {
       long = i .long ∙ s .long;
       low = λ k l. subst (λ x. x < 16) (sym (i .at k l)) (low (rule .inverts) k l);
@@ -94,9 +80,28 @@ gate-sampled file net work rule n samples after e s i hops =
 
     at : (inverts : Bool) (k : ℕ) → k < n
         → decode (cond inverts (code (invertSet (decode (getD samples k 0)))) (getD samples k 0))
-        ≡ cond inverts (invertSet (joinedSample (pin file net) work (rule .join) (pinCount file net) k)) (joinedSample (pin file net) work (rule .join) (pinCount file net) k)
+        ≡ cond inverts (invertSet (joinedSample (pinOf gate) work (rule .join) (gate .used) k)) (joinedSample (pinOf gate) work (rule .join) (gate .used) k)
     at true k l = decode-code _ ∙ ap invertSet (s .at k l)
     at false k l = s .at k l
+
+-- Where the gate was read from the record of a net, that is what the net's gate makes of its pins.
+pub net-sampled : (file : File) (net : ℕ) (gate : Gate) (work : List ℕ) (n : ℕ) (samples : List ℕ) → GateRead file net gate → GateRecord file net
+    → GateSampled gate work n samples → NetSampled file net work n samples
+unfolding ruledSample gateFrom gateValue joinedSample pinSample
+net-sampled file net gate work n samples read passed s hops = record {
+  long = s .long;
+  low = s .low;
+  at = λ k l. s .at k l ∙ same k;
+}
+  where
+    pins : (p : ℕ) → p < pinCount file net → pinOf gate p ≡ pin file net p
+    pins p h = pin-read file net gate read (passed .pins-high) p (omega (arith, read .used-is))
+
+    same : (k : ℕ) → gateSample gate work k ≡ gateFrom (envelope hops) file net (pinSample (pin file net) work k)
+    same k =
+        let rest = list-same (pinCount file net - 1) (λ p. decode (sampleIn work (pinOf gate (p + 1)) k)) (λ p. decode (sampleIn work (pin file net (p + 1)) k)) empty
+        (λ p l. ap (λ m. decode (sampleIn work m k)) (pins (p + 1) (omega arith))) in
+        rw (read .kind-is, read .used-is, pins 0 (passed .pins-low), rest) refl
 
 pub inverted-not : (inverts : Bool) (n : ℕ) (given : List ℕ) → inverts ≡ false → Inverted inverts n given given
 inverted-not inverts n given e = rw e record { long = refl; at = λ k l. refl }

@@ -9,7 +9,8 @@ use Rattle.laws.specs.Below.{maxBelow}
 use Rattle.laws.specs.Turn.{listBelow}
 use Rattle.excitation.specs.UncertaintySet.{UncertaintySet, decode, empty}
 use Rattle.block.specs.Accepted.{GateRecord}
-use Rattle.block.specs.Record.{File, HasRecord, delay, pinCount, pin}
+use Rattle.block.specs.Record.{File, HasRecord, delay, pinCount, pin, pinOf}
+use Rattle.block.specs.declared.Gate.{Gate}
 use Rattle.fill.specs.Codes.{Codes, setsOf}
 use Rattle.waveform.specs.Waveform.{Waveform, envelope, gateWaveform, inputWaveform}
 
@@ -78,6 +79,11 @@ pub record RowWritten (net before arrival last : ℕ) (codes work after : List �
   pub earliest : rowByte after net 128 ≡ before
   pub arrives : rowByte after net 129 ≡ arrival
   pub settles : rowByte after net 130 ≡ last
+
+-- A gate that uses at most four pins, and room for the rows of their nets.
+pub record HasPinRows (work : List ℕ) (gate : Gate) : Type 0 where
+  pub few : gate .used ≤ 4
+  pub row : (p : ℕ) → p < gate .used → HasRow work (pinOf gate p)
 
 -- The greatest arrival of a gate's pins, as the buffer has it.
 unfoldable pub latestIn : File → List ℕ → ℕ → ℕ

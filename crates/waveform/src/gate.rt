@@ -3,13 +3,14 @@ ghost use mathlib.Core.Path.{_≡_};
 ghost use Prim.Native.Nat.{_+_, _≤_, _<_, min};
 ghost use lib.ListN.{length};
 ghost use Rattle.excitation.specs.Table.{joinTable};
-ghost use Rattle.block.specs.Record.{HasRecord};
-ghost use Rattle.block.specs.Accepted.{GateRecord};
-ghost use Rattle.waveform.specs.Rows.{HasRow, lastIn, latestIn, pinsLastIn, SameAfter, LastChange, Ready, GateMade};
+ghost use Rattle.laws.specs.Below.{maxBelow};
+ghost use Rattle.block.specs.Record.{pinOf};
+ghost use Rattle.waveform.specs.Rows.{HasPinRows, arrivalIn, lastIn, SameAfter, LastChange, Ready, GateMade};
 ghost use Rattle.waveform.specs.Pins.{PinsJoined, Inverted, GateSampled, Delayed};
 use super::join;
 use super::row;
 use super::stretch;
+use block::Gate;
 use block::Net;
 use block::view;
 use excitation::Join;
@@ -21,11 +22,10 @@ struct Latest {
 }
 
 // The greatest arrival of a gate's pins, and the tick after which they stay the same.
-fn latest_pin(file: &[u8], net: Net, work: &[u8]) -> Latest
-    requires { ⌜ HasRecord (now file) (net .0) × GateRecord (now file) (net .0) × HasRow (now work) (net .0) ⌝ }
-    ensures { λ r. ⌜ (r .arrival ≡ latestIn (now (file .entry)) (now (work .entry)) (net .0)) × (r .last ≡ pinsLastIn (now (file .entry)) (now (work .entry)) (net .0)) × (r .arrival < 256) × (r .last < 256) ⌝ }
+fn latest_pin(gate: Gate, work: &[u8]) -> Latest
+    requires { ⌜ HasPinRows (now work) gate ⌝ }
+    ensures { λ r. ⌜ (r .arrival ≡ maxBelow (gate .used) (λ p. arrivalIn (now (work .entry)) (pinOf gate p))) × (r .last ≡ maxBelow (gate .used) (λ p. lastIn (now (work .entry)) (pinOf gate p))) × (r .arrival < 256) × (r .last < 256) ⌝ }
 {
-    let gate = view::gate(file, net);
     let mut arrival: usize = 0;
     let mut last: usize = 0;
     let mut p: usize = 0;
@@ -39,19 +39,10 @@ fn latest_pin(file: &[u8], net: Net, work: &[u8]) -> Latest
 }
 
 // The join of a gate's pins, left to right, in the first n samples.
-fn join_pins(
-    file: &[u8],
-    net: Net,
-    work: &[u8],
-    joins: &[u8],
-    by: Join,
-    n: usize,
-    samples: &mut [u8],
-)
-    requires { ⌜ HasRecord (now file) (net .0) × GateRecord (now file) (net .0) × HasRow (now work) (net .0) × (1 ≤ n) × (n ≤ 257) × (length (now samples) ≡ 257) × (now joins ≡ joinTable) ⌝ }
-    ensures { λ _. ⌜ PinsJoined (now (file .entry)) (net .0) (now (work .entry)) by n (now (samples .exit)) ⌝ }
+fn join_pins(gate: Gate, work: &[u8], joins: &[u8], by: Join, n: usize, samples: &mut [u8])
+    requires { ⌜ HasPinRows (now work) gate × (1 ≤ gate .used) × (1 ≤ n) × (n ≤ 257) × (length (now samples) ≡ 257) × (now joins ≡ joinTable) ⌝ }
+    ensures { λ _. ⌜ PinsJoined gate (now (work .entry)) by n (now (samples .exit)) ⌝ }
 {
-    let gate = view::gate(file, net);
     let first = gate.pins[0];
     row::unpack(work, first, samples);
     let mut p: usize = 1;
@@ -74,14 +65,13 @@ fn invert_if(samples: &mut [u8], inverts: bool, n: usize)
 }
 
 // What a gate makes of its pins, in the first n samples.
-fn gate_samples(file: &[u8], net: Net, work: &[u8], joins: &[u8], n: usize, samples: &mut [u8])
-    requires { ⌜ HasRecord (now file) (net .0) × GateRecord (now file) (net .0) × HasRow (now work) (net .0) × (1 ≤ n) × (n ≤ 257) × (length (now samples) ≡ 257) × (now joins ≡ joinTable) ⌝ }
-    ensures { λ _. ⌜ GateSampled (now (file .entry)) (net .0) (now (work .entry)) n (now (samples .exit)) ⌝ }
+fn gate_samples(gate: Gate, work: &[u8], joins: &[u8], n: usize, samples: &mut [u8])
+    requires { ⌜ HasPinRows (now work) gate × (1 ≤ gate .used) × (1 ≤ n) × (n ≤ 257) × (length (now samples) ≡ 257) × (now joins ≡ joinTable) ⌝ }
+    ensures { λ _. ⌜ GateSampled gate (now (work .entry)) n (now (samples .exit)) ⌝ }
 {
-    let gate = view::gate(file, net);
     let rule = block::gate_rule(gate.kind);
     let by = rule.join;
-    join_pins(file, net, work, joins, by, n, samples);
+    join_pins(gate, work, joins, by, n, samples);
     invert_if(samples, rule.inverts, n);
 }
 
@@ -135,13 +125,13 @@ pub fn gate_waveform(
     ensures { λ r. ⌜ GateMade (now (file .entry)) (net .0) hops (now (work .entry)) (now (work .exit)) (now (codes .exit)) × (r ≡ lastIn (now (work .exit)) (net .0)) ⌝ }
 {
     let mut samples = [0u8; 257];
-    let latest = latest_pin(file, net, work);
-    let pins_last = latest.last;
     let gate = view::gate(file, net);
+    let latest = latest_pin(gate, work);
+    let pins_last = latest.last;
     let d = gate.delay;
     let arrival = latest.arrival + d;
     let bound = pins_last + d;
-    gate_samples(file, net, work, joins, pins_last + 3, &mut samples);
+    gate_samples(gate, work, joins, pins_last + 3, &mut samples);
     delay(codes, &samples, d, pins_last);
     fill::fill(codes, hops, settled_from(bound));
     let last = last_change(codes, bound, arrival);

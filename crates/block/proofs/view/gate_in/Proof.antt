@@ -2,7 +2,7 @@
 -- to the next. All that the proof knows of `view_of` and of `BlockView::gate` is that each meets its contract. In a local MIR erases
 -- the lifetime of the view's type, so the machine value is shown to have the type at `erased`.
 -- Assumes nothing.
-use mathlib.Core.Path.{_≡_, refl, sym}
+use mathlib.Core.Path.{_≡_, refl}
 use Prim.Native.Nat.{ℕ, _<_, _^_}
 use mathlib.Core.List.{List, [], _∷_}
 use lib.Dec.{T as Holds}

@@ -1,14 +1,9 @@
 -- `waveform::gate::gate_samples` meets its contract.
 -- Assumes nothing.
-use mathlib.Core.Path.{ap, _∙_}
 use borrow.Author.Needs.{needs}
-use Rattle.block.specs.Kind.{kindOf, ruleOf}
 use Rattle.waveform.proofs.Pins.{gate-sampled}
 use Rattle.waveform.proofs.gate.gate_samples.Statement.{statement}
 use Rattle.waveform.proofs.gate.gate_samples.Tie as tie
-
-gate-requires : tie.Need-gate-requires
-gate-requires c κs = search needs
 
 gate-rule-requires : tie.Need-gate-rule-requires
 gate-rule-requires c κs = search needs
@@ -24,18 +19,11 @@ same-length c = search needs
 
 returns : tie.Need-returns
 returns c =
-    let s = c .before .before .before .before .before .before .before .before .before .before .before .before .before .before in
+    let s = c .before .before .before .before .before .before .before .before .before .before .before .before in
     let rule = c .before .before .before .before .before .before .before .before .gate-rule in
-    gate-sampled (s .args .file .now) (s .args .net .0) (s .args .work .now) (rule .result) (s .args .n) _ _
-    (rule .ensures ∙ ap (λ k. ruleOf (kindOf k)) (c .before .before .before .before .before .before .before .before .before .gate .ensures .kind-is)) (c .before .before .before .before .before .before .join-pins .ensures) (c .before .before .invert-if .ensures)
+    gate-sampled (s .args .gate) (s .args .work .now) (rule .result) (s .args .n) _ _ (rule .ensures) (c .before .before .before .before .before .before .join-pins .ensures) (c .before .before .invert-if .ensures)
 
 pub gate-samples-spec : {M : Type 1} → statement M
 gate-samples-spec =
     tie.close
-    (tie.spec
-    gate-requires
-    gate-rule-requires
-    join-pins-requires
-    invert-if-requires
-    same-length
-    returns)
+    (tie.spec gate-rule-requires join-pins-requires invert-if-requires same-length returns)

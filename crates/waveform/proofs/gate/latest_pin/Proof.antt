@@ -6,46 +6,41 @@ use native.Mathlib.Omega.{arith}
 use borrow.Author.Needs.{needs}
 use Rattle.laws.specs.Below.{maxBelow}
 use Rattle.laws.proofs.Below.{max-next}
-use Rattle.block.proofs.Views.{max-read}
 use Rattle.block.specs.Record.{pinOf}
-use Rattle.waveform.specs.Rows.{arrivalIn, lastIn, latestIn, pinsLastIn}
-use Rattle.waveform.proofs.Rows.{read-row}
+use Rattle.waveform.specs.Rows.{arrivalIn, lastIn}
 use Rattle.waveform.proofs.gate.latest_pin.Statement.{statement}
 use Rattle.waveform.proofs.gate.latest_pin.Tie as tie
 
 abbrev Inv-loop : tie.InvT-loop
-Inv-loop file work gate arrival₀ last₀ p₀ arrival last p = (p ≤ gate .used) × (arrival < 256) × (last < 256) × (arrival ≡ maxBelow p (λ q. arrivalIn work (pinOf gate q))) × (last ≡ maxBelow p (λ q. lastIn work (pinOf gate q)))
+Inv-loop work gate arrival₀ last₀ p₀ arrival last p = (p ≤ gate .used) × (arrival < 256) × (last < 256) × (arrival ≡ maxBelow p (λ q. arrivalIn work (pinOf gate q))) × (last ≡ maxBelow p (λ q. lastIn work (pinOf gate q)))
 
 abbrev μ-loop : tie.MeasureT-loop
-μ-loop file work gate arrival₀ last₀ p₀ arrival last p = gate .used - p
-
-gate-requires : tie.Need-gate-requires Inv-loop μ-loop
-gate-requires c κs = search needs
+μ-loop work gate arrival₀ last₀ p₀ arrival last p = gate .used - p
 
 loop-holds : tie.Need-loop-holds Inv-loop μ-loop
 unfolding maxBelow
 loop-holds c = (omega arith, omega arith, omega arith, refl, refl)
 
 mul-source : tie.Need-mul-source Inv-loop μ-loop
-mul-source c = let s = c .before .before .before .before .before in omega (arith, s .pre .1 .pins-high, c .before .before .gate .ensures .used-is)
+mul-source c = omega (arith, c .before .before .before .pre .few)
 
 element-copy-out-source : tie.Need-element-copy-out-source Inv-loop μ-loop
-element-copy-out-source c = let s = c .before .before .before .before .before in omega (arith, s .pre .1 .pins-high, c .before .before .gate .ensures .used-is)
+element-copy-out-source c = omega (arith, c .before .before .before .pre .few)
 
 arrival-requires : tie.Need-arrival-requires Inv-loop μ-loop
-arrival-requires c κs = let s = c .before .before .before .before .before .before in read-row (c .before .before .before .gate .ensures) (s .pre .1) (s .pre .2) (c .before .before .loop .p) (omega arith)
+arrival-requires c κs = c .before .before .before .before .pre .row (c .before .before .loop .p) (omega arith)
 
 greater-requires : tie.Need-greater-requires Inv-loop μ-loop
 greater-requires c κs = search needs
 
 last-requires : tie.Need-last-requires Inv-loop μ-loop
-last-requires c κs = let s = c .before .before .before .before .before .before .before .before in read-row (c .before .before .before .before .before .gate .ensures) (s .pre .1) (s .pre .2) (c .before .before .before .before .loop .p) (omega arith)
+last-requires c κs = c .before .before .before .before .before .before .pre .row (c .before .before .before .before .loop .p) (omega arith)
 
 greater-requires-2 : tie.Need-greater-requires-2 Inv-loop μ-loop
 greater-requires-2 c κs = search needs
 
 add-p : tie.Need-add-p Inv-loop μ-loop
-add-p c = let s = c .before .before .before .before .before .before .before .before .before .before in omega (arith, s .pre .1 .pins-high, c .before .before .before .before .before .before .before .gate .ensures .used-is)
+add-p c = omega (arith, c .before .before .before .before .before .before .before .before .pre .few)
 
 loop-less : tie.Need-loop-less Inv-loop μ-loop
 loop-less c = search needs
@@ -63,14 +58,10 @@ loop-again c =
     )
 
 returns : tie.Need-returns Inv-loop μ-loop
-unfolding latestIn pinsLastIn
 returns c =
-    let s = c .before .before .before .before .before in
     let l = c .before .loop in
-    let read = c .before .before .gate .ensures in
-    let e : l .p ≡ c .before .before .gate .result .used = omega arith in
-    let greatest = max-read _ _ _ read (s .pre .1 .pins-high) in
-    (rw e at (l .inv .3) ∙ greatest (arrivalIn (s .args .work .now)), rw e at (l .inv .4) ∙ greatest (lastIn (s .args .work .now)), l .inv .1, l .inv .2)
+    let e : l .p ≡ c .before .before .before .args .t1 .used = omega arith in
+    (rw e at (l .inv .3), rw e at (l .inv .4), l .inv .1, l .inv .2)
 
 pub latest-pin-spec : {M : Type 1} → statement M
 latest-pin-spec =
@@ -78,7 +69,6 @@ latest-pin-spec =
     (tie.spec
     Inv-loop
     μ-loop
-    gate-requires
     loop-holds
     mul-source
     element-copy-out-source
