@@ -1,4 +1,4 @@
--- What a search gives, from the promise of the bound that it rests on.
+-- What a search gives (for document 01, "What the checker must hold us to", 3), from the promise of the bound that it rests on.
 use Prim.Native.Nat.{ℕ, _+_, _≤_, _<_}
 use mathlib.Core.Bool.{true, false}
 use mathlib.Core.List.{List}

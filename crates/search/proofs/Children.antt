@@ -18,12 +18,11 @@ use Rattle.laws.proofs.Turn.{list-is}
 use Rattle.excitation.specs.Excitation.{excitationOf}
 use Rattle.excitation.specs.UncertaintySet.{UncertaintySet, member, empty, code, decode, single, setsIn}
 use Rattle.excitation.specs.declared.Excitation.{Excitation}
-use Rattle.excitation.proofs.Codes.{code-below, decode-code}
+use Rattle.excitation.proofs.Codes.{code-below, decode-code, set-at, sets-long}
 use Rattle.excitation.proofs.Finite.{for-each}
 use Rattle.block.specs.Record.{File}
 use Rattle.cases.specs.Case.{Case, membersBelow, childrenBelow}
 use Rattle.cases.specs.Records.{SetCodes}
-use Rattle.cases.proofs.Codes.{set-at, sets-long}
 use Rattle.search.specs.Steps.{Made, ChildMade, childCodes}
 use Rattle.search.specs.declared.Step.{Step}
 

@@ -82,7 +82,7 @@ ratio-low ratio lower r l = let m : ratio * lower ≤ 10000 * lower = mul-le-mul
 module _ {file : File} {inputs hops : ℕ} {table : List ℕ} {ratio budget goal : ℕ} {store pattern : List ℕ} {n best splits : ℕ}
     {store′ pattern′ : List ℕ} (reached : Reached file inputs hops table ratio budget goal store pattern n best splits store′ pattern′)
     {k upper : ℕ} (next : Next inputs n store′ k upper) where
-  abbrev pub Ends : Outcome → Type 0
+  abbrev Ends : Outcome → Type 0
   Ends outcome =
       Ran file inputs hops table ratio budget (stateIn inputs 1 goal store pattern) store pattern
       (record { outcome = outcome; upper = upper; lower = best - 1; splits = splits; cases = n }) store′ pattern′

@@ -12,6 +12,7 @@ use Rattle.laws.proofs.Below.{first-greatest-same}
 use Rattle.laws.proofs.Turn.{list-at}
 use Rattle.excitation.specs.Excitation.{excitationOf}
 use Rattle.excitation.specs.UncertaintySet.{member, empty, code, decode, single, setsIn}
+use Rattle.excitation.proofs.Codes.{set-at, sets-long}
 use Rattle.block.specs.Accepted.{AcceptedFile}
 use Rattle.block.specs.Block.{inputCount, coneSize}
 use Rattle.block.specs.Record.{File}
@@ -19,7 +20,7 @@ use Rattle.cases.specs.Case.{Case, membersBelow, childrenBelow}
 use Rattle.cases.specs.Choice.{coneSizes, rankOf, rank, chosenInput}
 use Rattle.cases.specs.Records.{casesIn, HasCase, SetCodes}
 use Rattle.cases.specs.Search.{setsAt, greatestUpper, nextSplit, placed, bestOf, madeUnder, nextChildren, split}
-use Rattle.cases.proofs.Codes.{set-at, sets-long, probe-read}
+use Rattle.cases.proofs.Codes.{probe-read}
 use Rattle.cases.proofs.Records.{caseOf, sets-copied, sets-at}
 use Rattle.search.specs.Search.{simulatedDrop, envelopeDrop, chooseIn}
 use Rattle.search.specs.Steps.{Made, ChildMade, Running, Cones, Next, CaseSplit, ownUpper, bestIn, stateIn, childCodes}

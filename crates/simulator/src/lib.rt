@@ -7,7 +7,6 @@ ghost use Rattle.block.specs.Record.{HasRecord};
 ghost use Rattle.block.specs.Accepted.{AcceptedFile};
 ghost use Rattle.block.specs.Verdict.{verdict};
 ghost use Rattle.evaluation.specs.Evaluation.{HasRows};
-ghost use Rattle.excitation.specs.Excitation.{excitationOf};
 ghost use Rattle.simulator.specs.Simulate.{byteAllowed, bytesFrom, sizeChecks, PatternCodes, PatternEvaluated, Simulated};
 use block::Net;
 use block::ReadAnswer;
