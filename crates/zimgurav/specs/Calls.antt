@@ -1,4 +1,5 @@
--- What the calls from C promise: the six numbers of the answer, and each buffer as the call leaves it.
+-- What the calls from C promise (document 01, "List of forms by place", and "What the checker must hold us to", 1): the six numbers of
+-- the answer, and each buffer as the call leaves it.
 use Prim.Native.Nat.{ℕ}
 use mathlib.Core.List.{List}
 use mathlib.Core.Path.{_≡_}

@@ -4,7 +4,7 @@ use mathlib.Core.Path.{sym, _∙_}
 use native.Mathlib.Omega.{arith}
 use borrow.Author.Needs.{needs}
 use Rattle.block.proofs.Verdicts.{refused-first, accepted-first}
-use Rattle.simulator.proofs.Outcomes.{sizes-right}
+use Rattle.simulator.proofs.Answers.{sizes-right}
 use Rattle.simulator.proofs.check_lent.Statement.{statement}
 use Rattle.simulator.proofs.check_lent.Tie as tie
 

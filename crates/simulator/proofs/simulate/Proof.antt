@@ -4,7 +4,7 @@ use mathlib.Core.Path.{sym, _∙_}
 use borrow.Author.Needs.{needs}
 use Rattle.block.proofs.Accepted.{accepted}
 use Rattle.block.proofs.Verdicts.{both-accepted}
-use Rattle.simulator.proofs.Outcomes.{sizes-right, file-refused, argument-refused, call-accepted}
+use Rattle.simulator.proofs.Answers.{sizes-right, file-refused, argument-refused, call-accepted}
 use Rattle.simulator.proofs.simulate.Statement.{statement}
 use Rattle.simulator.proofs.simulate.Tie as tie
 

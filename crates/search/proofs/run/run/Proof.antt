@@ -4,11 +4,11 @@ use Prim.Native.Nat.{_-_}
 use mathlib.Core.Path.{_≡_, refl, _∙_}
 use native.Mathlib.Omega.{arith}
 use lib.ListN.{length}
-use Rattle.search.specs.Steps.{Next}
+use Rattle.search.specs.Steps.{CaseToSplit}
 use borrow.Author.Needs.{needs}
 use Rattle.cases.proofs.Records.{has-case}
-use Rattle.search.proofs.Making.{ready-kept}
-use Rattle.search.proofs.Running.{Reached, begun, ran-as, room, upper-low, next-case, ratio-low, ends-exact, ends-within, ends-spent, reached-next}
+use Rattle.search.proofs.Making.{searchable-kept}
+use Rattle.search.proofs.Running.{Reached, reached-first, ran-as, split-room, upper-low, case-to-split, ratio-low, ends-exact, ends-within, ends-spent, reached-next}
 use Rattle.search.proofs.run.run.Statement.{statement}
 use Rattle.search.proofs.run.run.Tie as tie
 
@@ -21,7 +21,7 @@ abbrev μ-loop : tie.MeasureT-loop
     budget - splits
 
 loop-holds : tie.Need-loop-holds Inv-loop μ-loop
-loop-holds c = (begun (c .before .before .before .before .before .before .before .pre .1), refl, refl)
+loop-holds c = (reached-first (c .before .before .before .before .before .before .before .pre .1), refl, refl)
 
 first-greatest-requires : tie.Need-first-greatest-requires Inv-loop μ-loop
 first-greatest-requires c κs = let r = c .before .loop .inv .0 .running in (r .cases .whole, r .some, r .cases .few)
@@ -48,10 +48,10 @@ same-length-4 : tie.Need-same-length-4 Inv-loop μ-loop
 same-length-4 c = c .before .before .before .before .before .before .loop .inv .0 .past .store-long
 
 -- The case that the scans found.
-next-found : (c : tie.After-upper Inv-loop μ-loop) → Next (c .before .before .before .before .before .before .before .before .before .before .before .before .args .setting .inputs) (c .before .before .before .before .loop .cases) (c .before .before .before .before .loop .store) (c .before .before .first-greatest .result .0) (c .upper .result)
+next-found : (c : tie.After-upper Inv-loop μ-loop) → CaseToSplit (c .before .before .before .before .before .before .before .before .before .before .before .before .args .setting .inputs) (c .before .before .before .before .loop .cases) (c .before .before .before .before .loop .store) (c .before .before .first-greatest .result .0) (c .upper .result)
 next-found c =
     let found = c .before .before .first-greatest .ensures in
-    next-case (c .before .before .before .before .loop .inv .0 .running) _ (found .1) _ (found .0) (c .upper .ensures)
+    case-to-split (c .before .before .before .before .loop .inv .0 .running) _ (found .1) _ (found .0) (c .upper .ensures)
 
 returns : tie.Need-returns Inv-loop μ-loop
 returns c = ran-as (c .ended .ensures) (ends-exact (c .before .before .before .before .before .before .loop .inv .0) (next-found (c .before .before)) (c .before .if1 .taken))
@@ -104,8 +104,8 @@ split-requires : tie.Need-split-requires Inv-loop μ-loop
 split-requires c κs =
     let pre = c .before .before .before .before .before .before .before .before .before .before .before .before .before .before .before .before .before .before .before .pre in
     let inv = c .before .before .before .before .before .before .before .before .before .before .before .loop .inv in
-    let space = room (inv .0) (c .before .before .before .before .if3 .left) (pre .5) (pre .6) in
-    (ready-kept (pre .0) (inv .1) (inv .2), inv .0 .running, next-found (c .before .before .before .before .before .before .before), pre .2, pre .3, space .0, space .1)
+    let space = split-room (inv .0) (c .before .before .before .before .if3 .left) (pre .5) (pre .6) in
+    (searchable-kept (pre .0) (inv .1) (inv .2), inv .0 .running, next-found (c .before .before .before .before .before .before .before), pre .2, pre .3, space .0, space .1)
 
 add-splits : tie.Need-add-splits Inv-loop μ-loop
 add-splits c = record { fits = omega (arith, c .before .before .before .before .before .before .before .before .before .before .before .before .before .before .before .before .before .before .before .before .loop .inv .0 .afforded, c .before .before .before .before .before .before .before .before .before .before .before .before .before .before .before .before .before .before .before .before .before .before .before .before .before .before .before .before .pre .5) }
