@@ -17,7 +17,7 @@ use Rattle.excitation.specs.UncertaintySet.{empty}
 use Rattle.excitation.specs.declared.Excitation.{Excitation}
 use Rattle.block.specs.Block.{Choice, choiceCount}
 use Rattle.cases.specs.Case.{Case, undecided, decided, probe, takenOf, children}
-use Rattle.cases.specs.Search.{StoredCase, noCase, setsAt, greatestUpper, nextSplit, placed, Best, State, Found, outcomeOf, better, bestOf, firstBest, madeUnder, firstState, nextChildren, split, outcomeAt, searchFrom, search, casesSheet}
+use Rattle.cases.specs.Search.{StoredCase, noCase, setsAt, greatestUpper, nextSplit, placed, Best, State, SearchEnd, outcomeOf, better, bestOf, firstBest, madeUnder, firstState, nextChildren, split, outcomeAt, searchFrom, search, casesSheet}
 use Rattle.cases.specs.Promise.{Bounds, Chooses, Covered, Right}
 use Rattle.cases.specs.declared.Outcome.{Outcome}
 use Rattle.cases.specs.declared.Outcome.the-variants.{Exact, Within, Spent}
@@ -268,7 +268,7 @@ module _ (simulated : List Excitation → ℕ) (bound choose : Case → ℕ) (fr
     from-right (suc left) splits state standing =
         go (outcomeAt ratio state) refl (from-right left (suc splits) (split simulated bound choose state))
       where
-        after : Found
+        after : SearchEnd
         after = searchFrom simulated bound choose ratio left (suc splits) (split simulated bound choose state)
 
         go : (outcome : Outcome) → outcomeAt ratio state ≡ outcome

@@ -101,7 +101,7 @@ module _ (simulated : List Excitation → ℕ) (bound choose : Case → ℕ) whe
       }
 
 -- How a search ended, after how many splits, and where.
-pub record Found : Type 0 where
+pub record SearchEnd : Type 0 where
   pub outcome : Outcome
   pub splits : ℕ
   pub state : State
@@ -109,7 +109,7 @@ pub record Found : Type 0 where
 module _ (simulated : List Excitation → ℕ) (bound choose : Case → ℕ) (ratio : ℕ) where
   -- A search from a state on, after some splits, with so many left. No split left is splits = budget; where some are left and it is
   -- neither exact nor within, it goes on with one split.
-  unfoldable pub searchFrom : ℕ → ℕ → State → Found
+  unfoldable pub searchFrom : ℕ → ℕ → State → SearchEnd
   searchFrom zero splits state = record { outcome = outcomeAt ratio state; splits = splits; state = state }
   searchFrom (suc left) splits state = elim (outcomeAt ratio state) [
     | Exact ↦ record { outcome = Exact; splits = splits; state = state }
@@ -118,7 +118,7 @@ module _ (simulated : List Excitation → ℕ) (bound choose : Case → ℕ) (ra
   ]
 
   -- Document 01's search, with a budget of splits, of a frame.
-  unfoldable pub search : ℕ → Case → Found
+  unfoldable pub search : ℕ → Case → SearchEnd
   search budget frame = searchFrom budget 0 (firstState simulated bound frame)
 
 -- The sheet of a search: the greatest, at each place, over the cases in the store at the end, decided ones simulated.

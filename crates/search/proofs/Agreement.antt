@@ -28,7 +28,7 @@ use Rattle.evaluation.specs.declared.CurrentsAnswer.the-variants as currents
 use Rattle.envelope.proofs.Soundness.{soundness}
 use Rattle.cases.specs.Choice.{coneSizes}
 use Rattle.cases.specs.Promise.{Right}
-use Rattle.cases.specs.Search.{Found, greatestUpper, outcomeOf}
+use Rattle.cases.specs.Search.{SearchEnd, greatestUpper, outcomeOf}
 use Rattle.cases.specs.Store.{patternWith}
 use Rattle.cases.specs.declared.Outcome.{Outcome}
 use Rattle.cases.proofs.Chosen.{chosen-undecided}
@@ -37,8 +37,7 @@ use Rattle.cases.proofs.Right.{search-right, sheet-above}
 use Rattle.simulator.specs.Simulate.{bytesFrom, sizeChecks, simulateVerdict, patternSheet, Simulated}
 use Rattle.simulator.proofs.Patterns.{pattern-chosen}
 use Rattle.search.specs.Agreement.{Agrees, Agreement}
-use Rattle.search.specs.Search.{simulatedDrop, envelopeDrop, chooseIn, searchOf, sheetOver, limitChecks, bufferChecks, searchVerdict, foundAnswer, Searched}
-use Rattle.search.specs.Search as operation
+use Rattle.search.specs.Search.{simulatedDrop, envelopeDrop, chooseIn, searchOf, sheetOver, limitChecks, bufferChecks, searchVerdict, foundAnswer, searchAnswerAfter, Searched}
 use Rattle.search.specs.declared.SearchAnswer.the-variants as answer
 use Rattle.search.proofs.Frame.{frame-probe, pattern-room, pattern-back, pattern-passes}
 
@@ -81,8 +80,8 @@ record AcceptedSearch (file : File) (hops : ℕ) (table : List ℕ) (ratio budge
   sheet-is : sheet ≡ sheetWords (sheetOver file hops (searchOf file hops table ratio budget .state .cases))
   pattern-is : pattern ≡ patternWith (searchOf file hops table ratio budget .state .best .pattern) given
 
-found-accepted : (v : Verdict) (found : Found) (o : Outcome) (upper lower splits cases : ℕ)
-    → answer.Found o upper lower splits cases ≡ operation.answerAfter v found
+found-accepted : (v : Verdict) (found : SearchEnd) (o : Outcome) (upper lower splits cases : ℕ)
+    → answer.Found o upper lower splits cases ≡ searchAnswerAfter v found
     → (v ≡ verdict-is.Accepted) × (o ≡ found .outcome) × (upper ≡ greatestUpper (found .state .cases)) × (lower ≡ found .state .best .lower) × (splits ≡ found .splits)
 unfolding foundAnswer
 found-accepted verdict-is.Accepted found o upper lower splits cases e = (refl, cc, cc, cc, cc)
@@ -119,7 +118,7 @@ search-accepted file hops table ratio budget sheet pattern work store o upper lo
 
 module _ (file : File) (hops : ℕ) (table : List ℕ) (ratio budget : ℕ) (given : List ℕ)
     (o : Outcome) (upper lower splits : ℕ) (sheet pattern : List ℕ) (ended : AcceptedSearch file hops table ratio budget given o upper lower splits sheet pattern) where
-  abbrev found : Found
+  abbrev found : SearchEnd
   found = searchOf file hops table ratio budget
 
   right : Right (simulatedDrop file table) ratio budget (frame file) found

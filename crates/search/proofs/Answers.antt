@@ -23,7 +23,7 @@ use Rattle.cases.specs.Search.{searchFrom, search}
 use Rattle.cases.specs.Store.{storeWith, patternWith}
 use Rattle.cases.proofs.Bytes.{store-is, pattern-is}
 use Rattle.cases.proofs.Records.{cases-long}
-use Rattle.search.specs.Search.{simulatedDrop, envelopeDrop, chooseIn, searchOf, sheetOver, limitChecks, bufferChecks, searchVerdict, foundAnswer, answerAfter, Searched}
+use Rattle.search.specs.Search.{simulatedDrop, envelopeDrop, chooseIn, searchOf, sheetOver, limitChecks, bufferChecks, searchVerdict, foundAnswer, searchAnswerAfter, Searched}
 use Rattle.search.specs.Steps.{bestIn, stateIn, PastKept, FirstMade, Ran, BlockSearched}
 use Rattle.search.specs.declared.Ended.{Ended}
 use Rattle.search.specs.declared.SearchAnswer.{SearchAnswer}
@@ -79,7 +79,7 @@ module _ {file : File} {nets inputs hops : ℕ} (accepted : AcceptedFile file ne
 module _ (file : File) (hops : ℕ) (table : List ℕ) (ratio budget : ℕ) (sheet pattern work store : List ℕ) where
   by-verdict : (v : Verdict) (r : SearchAnswer) (sheet′ pattern′ work′ store′ : List ℕ)
       → searchVerdict file hops table ratio budget sheet pattern work store ≡ v
-      → r ≡ answerAfter v (searchOf file hops table ratio budget)
+      → r ≡ searchAnswerAfter v (searchOf file hops table ratio budget)
       → sheet′ ≡ bufferAfter v (sheetWords (sheetOver file hops (searchOf file hops table ratio budget .state .cases))) sheet
       → pattern′ ≡ bufferAfter v (patternWith (searchOf file hops table ratio budget .state .best .pattern) pattern) pattern
       → store′ ≡ bufferAfter v (storeWith (searchOf file hops table ratio budget .state .cases) store) store

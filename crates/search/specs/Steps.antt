@@ -15,7 +15,7 @@ use Rattle.current.specs.Current.{sheetWords}
 use Rattle.evaluation.specs.Evaluation.{HasRows}
 use Rattle.cases.specs.Case.{Case, probe, takenOf}
 use Rattle.cases.specs.Records.{casesIn, HasCases, recordByte}
-use Rattle.cases.specs.Search.{Best, State, Found, greatestUpper, firstState, nextSplit, split, searchFrom}
+use Rattle.cases.specs.Search.{Best, State, SearchEnd, greatestUpper, firstState, nextSplit, split, searchFrom}
 use Rattle.cases.specs.Store.{patternByte, storeWith, patternWith}
 use Rattle.cases.specs.declared.Outcome.{Outcome}
 use Rattle.search.specs.Search.{simulatedDrop, envelopeDrop, chooseIn, searchOf, sheetOver, foundAnswer}
@@ -121,7 +121,7 @@ endedAt outcome upper lower splits cases = record { outcome = outcome; upper = u
 -- A run of the search from a state on, to its end.
 pub record Ran (file : File) (inputs hops : ℕ) (table : List ℕ) (ratio budget : ℕ) (start : State) (store pattern : List ℕ)
     (ended : Ended) (store′ pattern′ : List ℕ) : Type 0 where
-  pub found : Found
+  pub found : SearchEnd
   pub is : found ≡ searchFrom (simulatedDrop file table) (envelopeDrop file hops table) (chooseIn file) ratio budget 0 start
   pub outcome : ended .outcome ≡ found .outcome
   pub upper : ended .upper ≡ greatestUpper (found .state .cases)
