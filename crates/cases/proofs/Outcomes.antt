@@ -48,10 +48,10 @@ module _ (ratio upper lower : ℕ) where
 
 -- A search ends where it is exact or within, or where it is neither and no split is left; else it goes on with one split.
 module _ (simulated : List Excitation → ℕ) (bound choose : Case → ℕ) (ratio : ℕ) (state : State) where
-  abbrev pub from : ℕ → ℕ → SearchEnd
+  abbrev from : ℕ → ℕ → SearchEnd
   from left splits = searchFrom simulated bound choose ratio left splits state
 
-  abbrev pub here : Outcome → ℕ → SearchEnd
+  abbrev here : Outcome → ℕ → SearchEnd
   here outcome splits = record { outcome = outcome; splits = splits; state = state }
 
   abbrev upper : ℕ

@@ -69,6 +69,7 @@ fn own_upper(
     currents.drop
 }
 
+// The lesser of two numbers.
 fn lesser(a: u64, b: u64) -> u64
     ensures { λ r. ⌜ r ≡ min a b ⌝ }
 {

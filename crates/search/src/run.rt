@@ -9,6 +9,7 @@ use super::split;
 use cases::Outcome;
 use cases::store;
 
+// How a search ended.
 fn ended(outcome: Outcome, upper: u64, lower: u64, splits: u64, cases: usize) -> Ended
     ensures { λ r. ⌜ r ≡ endedAt outcome upper lower splits cases ⌝ }
 {

@@ -14,6 +14,7 @@ use cases::CaseNumber;
 use cases::sets;
 use cases::store;
 
+// The greater of two words.
 fn greater(a: u32, b: u32) -> u32
     ensures { λ r. ⌜ r ≡ max a b ⌝ }
 {

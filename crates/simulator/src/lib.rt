@@ -86,7 +86,7 @@ fn check_sizes(nets: usize, table: usize, sheet: usize, pattern: usize, work: us
 }
 
 // Checks 12, 15 and 16, in order.
-fn check_lent(
+fn check_arguments(
     file: &[u8],
     nets: usize,
     inputs: usize,
@@ -147,7 +147,7 @@ pub fn simulate(
     match block::read(file) {
         ReadAnswer::Refused(r) => CurrentsAnswer::Refused(r),
         ReadAnswer::Counts { nets, inputs } => {
-            match check_lent(
+            match check_arguments(
                 file,
                 nets as usize,
                 inputs as usize,
