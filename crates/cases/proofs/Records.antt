@@ -3,20 +3,16 @@
 -- Assumes nothing.
 use Prim.Native.Nat.{ℕ, _+_, _*_, _≤_, _<_, _^_}
 use mathlib.Core.List.{List, [], _∷_, _++_}
-use mathlib.Core.Logic.{_⊎_, inl, inr}
 use mathlib.Core.Path.{_≡_, refl, ap, sym, subst, _∙_}
 use native.Mathlib.Nat.{zero-add}
 use native.Mathlib.Omega.{arith}
-use lib.Dec.{ltb}
 use lib.ListN.{length, getD, drop, set, length-set, List·getD-append}
 use lib.Seq.{getD-drop, getD-append-add, getD-set-same, getD-set-other}
-use borrow.Author.Tests.{ltb-true, ltb-false}
-use borrow.Table.Steps.{cases}
 use Rattle.laws.specs.Below.{maxBelow, firstGreatest}
 use Rattle.laws.specs.Rewritten.{Rewritten}
 use Rattle.laws.specs.Turn.{listBelow}
 use Rattle.laws.proofs.Below.{max-same, first-greatest-is, first-greatest-same}
-use Rattle.laws.proofs.Numbers.{of-each}
+use Rattle.laws.proofs.Numbers.{of-each, outside-record}
 use Rattle.laws.proofs.Rewritten.{rewritten-first, rewritten-same, rewritten-append}
 use Rattle.laws.proofs.Turn.{list-at, list-long, list-next, list-is, list-same}
 use Rattle.excitation.specs.UncertaintySet.{setsIn}
@@ -39,10 +35,6 @@ codes-same inputs codes others few same is = record {
 case-is : {sets others : Case} {upper number : ℕ} → sets ≡ others → upper ≡ number
     → _≡_ {A = StoredCase} (record { sets = sets; upper = upper }) (record { sets = others; upper = number })
 case-is e f = λ i. record { sets = e i; upper = f i }
-
--- A byte of another record lies before the record or after it.
-outside : (at k j : ℕ) → (k ≡ at → ⊥) → j < 72 → (72 * k + j < 72 * at) ⊎ (72 * at + 72 ≤ 72 * k + j)
-outside at k j n h = cases (ltb k at) (λ t. inl (omega (arith, ltb-true k at t))) (λ t. inr (omega (arith, ltb-false k at t)))
 
 -- The case of these bytes of sets and this upper number.
 abbrev pub caseOf : ℕ → List ℕ → ℕ → StoredCase
@@ -89,7 +81,7 @@ module _ (inputs : ℕ) (few : inputs ≤ 64) (codes : List ℕ) (long : length 
       ap (λ i. getD after i 0) e ∙ written .done (64 + j) (omega arith) ∙ record-number codes upper long j
 
   other-byte : (k j : ℕ) → (k ≡ at → ⊥) → j < 72 → getD after (72 * k + j) 0 ≡ getD store (72 * k + j) 0
-  other-byte k j n h = written .rest (72 * k + j) (outside at k j n h)
+  other-byte k j n h = written .rest (72 * k + j) (outside-record 72 at k j n h)
 
   -- The case that is written, and another.
 
