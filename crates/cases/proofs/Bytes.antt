@@ -16,12 +16,11 @@ use Rattle.excitation.specs.Excitation.{l, excitationOf, byteOf, patternOf}
 use Rattle.excitation.specs.UncertaintySet.{empty, code, setsIn}
 use Rattle.excitation.specs.declared.Excitation.{Excitation}
 use Rattle.excitation.proofs.Bytes.{byte-forth}
-use Rattle.excitation.proofs.Codes.{code-decode}
+use Rattle.excitation.proofs.Codes.{code-decode, set-at, sets-long}
 use Rattle.cases.specs.Case.{Case}
 use Rattle.cases.specs.Search.{StoredCase, noCase}
 use Rattle.cases.specs.Store.{numberBytes, setBytes, recordBytes, storeBytes, storeWith, patternWith}
 use Rattle.cases.specs.Records.{upperIn, caseIn, casesIn, SetCodes, HasCases}
-use Rattle.cases.proofs.Codes.{set-at, sets-long}
 use Rattle.cases.proofs.Numbers.{number-long}
 use Rattle.cases.proofs.Records.{cases-long, case-at}
 

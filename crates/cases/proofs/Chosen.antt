@@ -1,14 +1,16 @@
--- The choice of the input to split takes an undecided one.
+-- Laws of the choice of the input to split: it takes an undecided one, and a scan of the codes finds it.
 -- Assumes nothing.
 use Prim.Native.Nat.{ℕ, _≤_}
 use mathlib.Core.Bool.{true}
 use mathlib.Core.List.{List}
-use mathlib.Core.Path.{_≡_}
+use mathlib.Core.Path.{_≡_, ap, sym, _∙_}
 use native.Mathlib.Omega.{arith}
 use lib.ListN.{length, getD}
 use borrow.Table.Steps.{cases}
-use Rattle.laws.proofs.Below.{max-at, first-greatest-is}
-use Rattle.excitation.specs.UncertaintySet.{UncertaintySet, empty}
+use Rattle.laws.specs.Below.{firstGreatest}
+use Rattle.laws.proofs.Below.{max-at, first-greatest-is, first-greatest-same}
+use Rattle.excitation.specs.UncertaintySet.{UncertaintySet, empty, decode, setsIn}
+use Rattle.excitation.proofs.Codes.{set-at, sets-long}
 use Rattle.cases.specs.Case.{undecided}
 use Rattle.cases.specs.Choice.{rankOf, rank, chosenInput}
 use Rattle.cases.specs.Promise.{Chooses}
@@ -35,3 +37,13 @@ chosen-undecided cones case d =
       max-at (length case) (rank cones case) (some .0) (some .1),
       first-greatest-is (length case) (rank cones case) (omega (arith, some .1)),
     ))
+
+-- The ranks of a case's inputs, from their codes.
+abbrev pub rankAt : List ℕ → List ℕ → ℕ → ℕ
+rankAt codes cones net = rankOf (decode (getD codes net 0)) (getD cones net 0)
+
+pub chosen-is : (inputs : ℕ) (codes cones : List ℕ) → firstGreatest inputs (rankAt codes cones) ≡ chosenInput cones (setsIn inputs codes)
+unfolding chosenInput rank
+chosen-is inputs codes cones =
+    sym (ap (λ n. firstGreatest n (rank cones (setsIn inputs codes))) (sets-long inputs codes)
+    ∙ first-greatest-same inputs _ _ (λ net h. ap (λ s. rankOf s (getD cones net 0)) (set-at inputs codes net h)))

@@ -11,10 +11,11 @@ use Rattle.laws.specs.Below.{allBelow, digit}
 use Rattle.laws.specs.Rewritten.{Rewritten}
 use Rattle.laws.proofs.Below.{all-same, all-fails}
 use Rattle.laws.proofs.Rewritten.{rewritten-first}
-use Rattle.laws.proofs.Turn.{list-at, list-long, list-is, list-map}
-use Rattle.excitation.specs.Excitation.{l, excitationOf, byteOf, patternOf}
+use Rattle.laws.proofs.Turn.{list-at, list-map}
+use Rattle.excitation.specs.Excitation.{l, byteOf, patternOf}
 use Rattle.excitation.specs.UncertaintySet.{decode, empty, size, setsIn}
-use Rattle.excitation.proofs.Bytes.{byte-low, byte-back}
+use Rattle.excitation.proofs.Bytes.{byte-low, pattern-read}
+use Rattle.excitation.proofs.Codes.{set-at, sets-long}
 use Rattle.cases.specs.Store.{patternByte}
 use Rattle.cases.specs.Case.{undecided, decided, firstAllowed, probe}
 
@@ -42,14 +43,6 @@ undecided-code n = ap (ltb 1) (size-code n)
 -- Whether a coded set is decided.
 abbrev pub decidedAt : List ℕ → ℕ → Bool
 decidedAt codes net = not (undecided (decode (getD codes net 0)))
-
-pub set-at : (inputs : ℕ) (codes : List ℕ) (net : ℕ) → net < inputs → getD (setsIn inputs codes) net empty ≡ decode (getD codes net 0)
-unfolding setsIn
-set-at inputs codes net h = list-at inputs (λ net. decode (getD codes net 0)) net empty h
-
-pub sets-long : (inputs : ℕ) (codes : List ℕ) → length (setsIn inputs codes) ≡ inputs
-unfolding setsIn
-sets-long inputs codes = list-long inputs (λ net. decode (getD codes net 0))
 
 pub decided-codes : (inputs : ℕ) (codes : List ℕ) → decided (setsIn inputs codes) ≡ allBelow inputs (decidedAt codes)
 unfolding decided
@@ -90,8 +83,4 @@ module _ (inputs : ℕ) (codes : List ℕ) {given after : List ℕ} (written : R
   probe-low net h = rw (byte-in net h) (byte-low (getD (probe (setsIn inputs codes)) net l))
 
   pub probe-read : patternOf inputs after ≡ probe (setsIn inputs codes)
-  unfolding patternOf
-  probe-read =
-      sym
-      (list-is inputs (λ net. excitationOf (getD after net 0)) l (probe (setsIn inputs codes)) (probe-long inputs codes)
-      (λ net h. sym (ap excitationOf (byte-in net h) ∙ byte-back (getD (probe (setsIn inputs codes)) net l))))
+  probe-read = pattern-read inputs (probe (setsIn inputs codes)) after (probe-long inputs codes) byte-in

@@ -1,7 +1,7 @@
 -- Laws of fan-out cones: which nets a net feeds, as code that goes from gate to gate keeps it.
 -- Assumes nothing.
-use Prim.Native.Nat.{ℕ, zero, suc, _+_, _≤_, _<_}
-use mathlib.Core.Path.{_≡_, refl, ap, sym, _∙_}
+use Prim.Native.Nat.{ℕ, _+_, _≤_, _<_}
+use mathlib.Core.Path.{_≡_, ap, sym, _∙_}
 use mathlib.Core.Bool.{Bool, true, false, _||_}
 use mathlib.Core.List.{List}
 use mathlib.Core.Logic.{⊎-elim}
@@ -13,13 +13,14 @@ use lib.Seq.{getD-set-same, getD-set-other}
 use Rattle.laws.specs.Below.{anyBelow, countBelow}
 use Rattle.laws.specs.Turn.{inTurn}
 use Rattle.laws.proofs.Below.{any-same, count-next, count-none, count-same, count-at-most}
+use Rattle.laws.proofs.Lists.{replicate-at}
 use Rattle.laws.proofs.Turn.{turn-at}
 use Rattle.block.specs.Record.{File, pinCount, pin}
 use Rattle.block.specs.Block.{fedFrom, coneSize}
 use Rattle.block.specs.Accepted.{GateRecord, AcceptedFile}
 
 -- Whether a net is fed by the source.
-abbrev pub isFed : File → ℕ → ℕ → Bool
+abbrev isFed : File → ℕ → ℕ → Bool
 isFed file source net = fedFrom file source (inTurn (fedFrom file source) net) net
 
 -- Only what stands at a gate's pins decides whether it is fed.
@@ -42,12 +43,6 @@ pub record Fed (file : File) (source gate size : ℕ) (fed : List Bool) : Type 0
   pub rest : (net : ℕ) → gate ≤ net → getD fed net false ≡ false
   pub counted : size ≡ countBelow gate (isFed file source)
 
--- A list of values that are all the one that stands past its end.
-none-there : (n i : ℕ) → getD (replicate n false) i false ≡ false
-none-there zero i = refl
-none-there (suc n) zero = refl
-none-there (suc n) (suc i) = none-there n i
-
 module _ (file : File) (source : ℕ) where
   -- No input is fed.
   pub fed-first : (nets inputs : ℕ) → AcceptedFile file nets inputs → Fed file source inputs 0 (replicate 1024 false)
@@ -55,8 +50,8 @@ module _ (file : File) (source : ℕ) where
       let none : (net : ℕ) → net < inputs → isFed file source net ≡ false = λ net h. unfed file source net _ (a .input net h .no-pins) in
       record {
         long = length-replicate 1024 false;
-        done = λ net h. none-there 1024 net ∙ sym (none net h);
-        rest = λ net h. none-there 1024 net;
+        done = λ net h. replicate-at 1024 net false ∙ sym (none net h);
+        rest = λ net h. replicate-at 1024 net false;
         counted = sym (count-none inputs (isFed file source) none);
       }
 

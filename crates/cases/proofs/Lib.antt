@@ -1,9 +1,7 @@
 pub mod Codes
-pub mod Scan
 pub mod Cones
 pub mod Numbers
 pub mod Records
-pub mod Written
 pub mod Bytes
 pub mod Cases
 pub mod Splits

@@ -11,7 +11,7 @@ use borrow.Author.Tests.{eqb-true, eqb-false, leb-true, leb-false, eq-eqb, ne-eq
 use borrow.Table.Steps.{cases}
 use Rattle.excitation.specs.declared.Excitation.{Excitation}
 use Rattle.cases.specs.Case.{Case}
-use Rattle.cases.specs.Search.{State, Found, greatestUpper, outcomeOf, outcomeAt, split, searchFrom}
+use Rattle.cases.specs.Search.{State, SearchEnd, greatestUpper, outcomeOf, outcomeAt, split, searchFrom}
 use Rattle.cases.specs.declared.Outcome.{Outcome}
 use Rattle.cases.specs.declared.Outcome.the-variants.{Exact, Within, Spent}
 
@@ -48,10 +48,10 @@ module _ (ratio upper lower : ℕ) where
 
 -- A search ends where it is exact or within, or where it is neither and no split is left; else it goes on with one split.
 module _ (simulated : List Excitation → ℕ) (bound choose : Case → ℕ) (ratio : ℕ) (state : State) where
-  abbrev pub from : ℕ → ℕ → Found
+  abbrev from : ℕ → ℕ → SearchEnd
   from left splits = searchFrom simulated bound choose ratio left splits state
 
-  abbrev pub here : Outcome → ℕ → Found
+  abbrev here : Outcome → ℕ → SearchEnd
   here outcome splits = record { outcome = outcome; splits = splits; state = state }
 
   abbrev upper : ℕ

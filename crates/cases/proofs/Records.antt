@@ -1,37 +1,29 @@
--- Laws of the record of a case: once it is written the store has that case there, and the others as they were.
+-- Laws of the record of a case: how the code writes it, sets first and then the upper number; once it is written the store has that case
+-- there, and the others as they were.
 -- Assumes nothing.
 use Prim.Native.Nat.{ℕ, _+_, _*_, _≤_, _<_, _^_}
 use mathlib.Core.List.{List, [], _∷_, _++_}
-use mathlib.Core.Logic.{_⊎_, inl, inr}
-use mathlib.Core.Path.{_≡_, ap, sym, _∙_}
+use mathlib.Core.Path.{_≡_, refl, ap, sym, subst, _∙_}
+use native.Mathlib.Nat.{zero-add}
 use native.Mathlib.Omega.{arith}
-use lib.Dec.{ltb}
 use lib.ListN.{length, getD, drop, set, length-set, List·getD-append}
 use lib.Seq.{getD-drop, getD-append-add, getD-set-same, getD-set-other}
-use borrow.Author.Tests.{ltb-true, ltb-false}
-use borrow.Table.Steps.{cases}
 use Rattle.laws.specs.Below.{maxBelow, firstGreatest}
 use Rattle.laws.specs.Rewritten.{Rewritten}
 use Rattle.laws.specs.Turn.{listBelow}
 use Rattle.laws.proofs.Below.{max-same, first-greatest-is, first-greatest-same}
-use Rattle.laws.proofs.Numbers.{of-each}
-use Rattle.laws.proofs.Rewritten.{rewritten-first}
+use Rattle.laws.proofs.Numbers.{of-each, outside-record}
+use Rattle.laws.proofs.Rewritten.{rewritten-first, rewritten-same, rewritten-append}
 use Rattle.laws.proofs.Turn.{list-at, list-long, list-next, list-is, list-same}
-use Rattle.excitation.specs.UncertaintySet.{decode, empty, setsIn}
+use Rattle.excitation.specs.UncertaintySet.{setsIn}
+use Rattle.excitation.proofs.Codes.{sets-same}
 use Rattle.cases.specs.Case.{Case}
 use Rattle.cases.specs.Search.{StoredCase, noCase, upperAt, setsAt, greatestUpper, nextSplit}
 use Rattle.cases.specs.Store.{numberBytes}
 use Rattle.cases.specs.Records.{upperIn, caseIn, casesIn, recordByte, HasCase, SetCodes, HasCases}
 use Rattle.cases.proofs.Numbers.{number-same, number-at}
 
--- The bytes of a case's sets alone make its sets, and say that they are such bytes.
-
-sets-same : (inputs : ℕ) (codes others : List ℕ) → ((net : ℕ) → net < inputs → getD codes net 0 ≡ getD others net 0)
-    → setsIn inputs codes ≡ setsIn inputs others
-unfolding setsIn
-sets-same inputs codes others same =
-    list-same inputs (λ net. decode (getD codes net 0)) (λ net. decode (getD others net 0)) empty (λ net l. ap decode (same net l))
-
+-- The bytes of a case's sets alone say that they are such bytes.
 codes-same : (inputs : ℕ) (codes others : List ℕ) → inputs ≤ 64 → ((j : ℕ) → j < 64 → getD codes j 0 ≡ getD others j 0)
     → SetCodes inputs codes → SetCodes inputs others
 codes-same inputs codes others few same is = record {
@@ -44,10 +36,6 @@ case-is : {sets others : Case} {upper number : ℕ} → sets ≡ others → uppe
     → _≡_ {A = StoredCase} (record { sets = sets; upper = upper }) (record { sets = others; upper = number })
 case-is e f = λ i. record { sets = e i; upper = f i }
 
--- A byte of another record lies before the record or after it.
-outside : (at k j : ℕ) → (k ≡ at → ⊥) → j < 72 → (72 * k + j < 72 * at) ⊎ (72 * at + 72 ≤ 72 * k + j)
-outside at k j n h = cases (ltb k at) (λ t. inl (omega (arith, ltb-true k at t))) (λ t. inr (omega (arith, ltb-false k at t)))
-
 -- The case of these bytes of sets and this upper number.
 abbrev pub caseOf : ℕ → List ℕ → ℕ → StoredCase
 caseOf inputs codes upper = record { sets = setsIn inputs codes; upper = upper }
@@ -55,13 +43,30 @@ caseOf inputs codes upper = record { sets = setsIn inputs codes; upper = upper }
 -- The bytes of a record.
 
 module _ (codes : List ℕ) (upper : ℕ) (long : length codes ≡ 64) where
-  pub record-set : (j : ℕ) → j < 64 → recordByte codes upper j ≡ getD codes j 0
+  record-set : (j : ℕ) → j < 64 → recordByte codes upper j ≡ getD codes j 0
   unfolding recordByte
   record-set j h = List·getD-append codes (numberBytes 8 upper) 0 j (omega arith)
 
-  pub record-number : (j : ℕ) → recordByte codes upper (64 + j) ≡ getD (numberBytes 8 upper) j 0
+  record-number : (j : ℕ) → recordByte codes upper (64 + j) ≡ getD (numberBytes 8 upper) j 0
   unfolding recordByte
   record-number j = ap (λ n. getD (codes ++ numberBytes 8 upper) (n + j) 0) (sym long) ∙ getD-append-add codes (numberBytes 8 upper) j 0
+
+-- A record as the code writes it: its sets, then its upper number.
+
+-- A copy of a part that starts at another name of its place.
+pub copied-at : (from : List ℕ) (start place at n : ℕ) (given after : List ℕ) → start ≡ place
+    → Rewritten (λ j. getD from (start + j) 0) at n given after → Rewritten (λ j. getD from (place + j) 0) at n given after
+copied-at from start place at n given after e w = rewritten-same _ _ at n given after (λ j h. ap (λ s. getD from (s + j) 0) e) w
+
+pub case-written : (codes : List ℕ) (upper start place : ℕ) (store sets after : List ℕ) → length codes ≡ 64 → start ≡ place
+    → Rewritten (λ j. getD codes (0 + j) 0) start 64 store sets → Rewritten (λ j. getD (numberBytes 8 upper) j 0) (start + 64) 8 sets after
+    → Rewritten (recordByte codes upper) place 72 store after
+case-written codes upper start place store sets after long e first second =
+    subst (λ s. Rewritten (recordByte codes upper) s 72 store after) e
+    (rewritten-append _ _ (recordByte codes upper) start 64 (start + 64) 8 store sets after refl
+    (λ j h. ap (λ i. getD codes i 0) (zero-add j) ∙ sym (record-set codes upper long j h))
+    (λ j h. sym (record-number codes upper long j))
+    first second)
 
 -- A record is written: its bytes, its case and every other, the cases that the store has then, and that it has cases then.
 
@@ -76,7 +81,7 @@ module _ (inputs : ℕ) (few : inputs ≤ 64) (codes : List ℕ) (long : length 
       ap (λ i. getD after i 0) e ∙ written .done (64 + j) (omega arith) ∙ record-number codes upper long j
 
   other-byte : (k j : ℕ) → (k ≡ at → ⊥) → j < 72 → getD after (72 * k + j) 0 ≡ getD store (72 * k + j) 0
-  other-byte k j n h = written .rest (72 * k + j) (outside at k j n h)
+  other-byte k j n h = written .rest (72 * k + j) (outside-record 72 at k j n h)
 
   -- The case that is written, and another.
 

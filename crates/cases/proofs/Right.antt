@@ -17,7 +17,7 @@ use Rattle.excitation.specs.UncertaintySet.{empty}
 use Rattle.excitation.specs.declared.Excitation.{Excitation}
 use Rattle.block.specs.Block.{Choice, choiceCount}
 use Rattle.cases.specs.Case.{Case, undecided, decided, probe, takenOf, children}
-use Rattle.cases.specs.Search.{StoredCase, noCase, setsAt, greatestUpper, nextSplit, placed, Best, State, Found, outcomeOf, better, bestOf, firstBest, madeUnder, firstState, nextChildren, split, outcomeAt, searchFrom, search, casesSheet}
+use Rattle.cases.specs.Search.{StoredCase, noCase, setsAt, greatestUpper, nextSplit, placed, Best, State, SearchEnd, outcomeOf, better, bestOf, firstBest, madeUnder, firstState, nextChildren, split, outcomeAt, searchFrom, search, casesSheet}
 use Rattle.cases.specs.Promise.{Bounds, Chooses, Covered, Right}
 use Rattle.cases.specs.declared.Outcome.{Outcome}
 use Rattle.cases.specs.declared.Outcome.the-variants.{Exact, Within, Spent}
@@ -39,24 +39,24 @@ spent-apart ratio upper lower e same = exact-not-spent (rw (eq-eqb upper lower s
 
 module _ (simulated : List Excitation → ℕ) (frame : Case) where
   -- What is known of a case in the store, where L is lower.
-  record Known (lower : ℕ) (x : StoredCase) : Type 0 where
-    pub above : {pattern : List Excitation} → Choice pattern (x .sets) → simulated pattern ≤ x .upper
-    pub inside : {pattern : List Excitation} → Choice pattern (x .sets) → Choice pattern frame
-    pub filled : Choice (probe (x .sets)) (x .sets)
-    pub tight : decided (x .sets) ≡ true → x .upper ≤ lower
+  record CaseKnown (lower : ℕ) (x : StoredCase) : Type 0 where
+    above : {pattern : List Excitation} → Choice pattern (x .sets) → simulated pattern ≤ x .upper
+    inside : {pattern : List Excitation} → Choice pattern (x .sets) → Choice pattern frame
+    filled : Choice (probe (x .sets)) (x .sets)
+    tight : decided (x .sets) ≡ true → x .upper ≤ lower
 
   -- What is known of the best probe.
   record BestKnown (best : Best) : Type 0 where
-    pub chosen : Choice (best .pattern) frame
-    pub reached : simulated (best .pattern) ≡ best .lower
+    chosen : Choice (best .pattern) frame
+    reached : simulated (best .pattern) ≡ best .lower
 
   -- What is known where a search stands after some splits.
   record Standing (splits : ℕ) (state : State) : Type 0 where
-    pub known : {x : StoredCase} → List·Memᴰ x (state .cases) → Known (state .best .lower) x
-    pub covered : {pattern : List Excitation} → Choice pattern frame → Covered pattern (state .cases)
-    pub best : BestKnown (state .best)
-    pub total : storedChoices (state .cases) ≡ choiceCount frame
-    pub many : splits < length (state .cases)
+    known : {x : StoredCase} → List·Memᴰ x (state .cases) → CaseKnown (state .best .lower) x
+    covered : {pattern : List Excitation} → Choice pattern frame → Covered pattern (state .cases)
+    best : BestKnown (state .best)
+    total : storedChoices (state .cases) ≡ choiceCount frame
+    many : splits < length (state .cases)
 
 -- The best probe once more cases are made
 
@@ -108,7 +108,7 @@ module _ (simulated : List Excitation → ℕ) (bound choose : Case → ℕ) (fr
   first-standing : Choice (probe frame) frame → Standing simulated frame 0 (firstState simulated bound frame)
   unfolding firstState firstBest setsAt storedChoices sumOver
   first-standing filled = record {
-    known = λ {x} m. subst (Known simulated frame (simulated (probe frame))) (sym (List·Memᴰ·eq-of-singleton m)) (record {
+    known = λ {x} m. subst (CaseKnown simulated frame (simulated (probe frame))) (sym (List·Memᴰ·eq-of-singleton m)) (record {
       above = λ {pattern} choice. taken-above pattern frame choice;
       inside = λ choice. choice;
       filled = filled;
@@ -135,7 +135,7 @@ module _ (simulated : List Excitation → ℕ) (bound choose : Case → ℕ) (fr
         let x = covering pattern (state .cases) (standing .covered choice) in
         le-trans (standing .known (x .1) .above (x .2)) (upper-below (state .cases) (x .1))
 
-    parent-known : Known simulated frame (state .best .lower) (getD (state .cases) next noCase)
+    parent-known : CaseKnown simulated frame (state .best .lower) (getD (state .cases) next noCase)
     parent-known = standing .known (next-member (state .cases) not-empty)
 
     -- Where U and L are apart some input of the case to split is undecided.
@@ -188,7 +188,7 @@ module _ (simulated : List Excitation → ℕ) (bound choose : Case → ℕ) (fr
           (λ child m. parent-known .inside (child-inside input parent m (child-filled input parent m (parent-known .filled))))
 
       child-known : (child : Case) → List·Memᴰ child new
-          → Known simulated frame (after .lower) (make child)
+          → CaseKnown simulated frame (after .lower) (make child)
       unfolding setsAt madeUnder
       child-known child m = record {
         above = λ {pattern} choice. omega (
@@ -202,12 +202,12 @@ module _ (simulated : List Excitation → ℕ) (bound choose : Case → ℕ) (fr
         tight = λ d. omega (arith, best-probed simulated new (state .best) m, taken-decided simulated bound child d);
       }
 
-      made-known : {x : StoredCase} → List·Memᴰ x made → Known simulated frame (after .lower) x
+      made-known : {x : StoredCase} → List·Memᴰ x made → CaseKnown simulated frame (after .lower) x
       made-known m =
           let from = Memᴰ·of-map make new m in
-          subst (Known simulated frame (after .lower)) (from .2) (child-known (from .0) (from .1))
+          subst (CaseKnown simulated frame (after .lower)) (from .2) (child-known (from .0) (from .1))
 
-      kept-known : {x : StoredCase} → List·Memᴰ x (state .cases) → Known simulated frame (after .lower) x
+      kept-known : {x : StoredCase} → List·Memᴰ x (state .cases) → CaseKnown simulated frame (after .lower) x
       kept-known m =
           let k = standing .known m in
           record { above = k .above; inside = k .inside; filled = k .filled; tight = λ d. le-trans (k .tight d) (best-grown simulated new (state .best)) }
@@ -268,7 +268,7 @@ module _ (simulated : List Excitation → ℕ) (bound choose : Case → ℕ) (fr
     from-right (suc left) splits state standing =
         go (outcomeAt ratio state) refl (from-right left (suc splits) (split simulated bound choose state))
       where
-        after : Found
+        after : SearchEnd
         after = searchFrom simulated bound choose ratio left (suc splits) (split simulated bound choose state)
 
         go : (outcome : Outcome) → outcomeAt ratio state ≡ outcome

@@ -13,7 +13,7 @@ use Rattle.excitation.specs.declared.Excitation.{Excitation}
 abbrev pub Case : Type 0
 Case = List UncertaintySet
 
--- An undecided input: a set of more than one member.
+-- Document 01's undecided input: a set of more than one member.
 unfoldable pub undecided : UncertaintySet → Bool
 undecided s = ltb 1 (size s)
 
@@ -41,6 +41,6 @@ membersBelow (suc n) s = membersBelow n s ++ cond (member (excitationOf n) s) (e
 unfoldable pub childrenBelow : ℕ → ℕ → Case → List Case
 childrenBelow n input case = map (λ e. set case input (single e)) (membersBelow n (getD case input empty))
 
--- Children, one for each excitation that the set allows, in order l, h, hl, lh.
+-- Document 01's children, one for each excitation that the set allows, in order l, h, hl, lh.
 abbrev pub children : ℕ → Case → List Case
 children input case = childrenBelow 4 input case

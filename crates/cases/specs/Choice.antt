@@ -10,7 +10,7 @@ use Rattle.block.specs.Block.{inputCount, coneSize}
 use Rattle.block.specs.Record.{File}
 use Rattle.cases.specs.Case.{Case, undecided}
 
--- How many gates stand in the fan-out cone of each input.
+-- How many gates stand in document 01's fan-out cone of each input.
 unfoldable pub coneSizes : File → List ℕ
 coneSizes file = listBelow (inputCount file) (coneSize file)
 

@@ -1,4 +1,4 @@
--- What a search gives, from the promise of the bound that it rests on.
+-- What a search gives (for document 01, "What the checker must hold us to", 3), from the promise of the bound that it rests on.
 use Prim.Native.Nat.{ℕ, _+_, _≤_, _<_}
 use mathlib.Core.Bool.{true, false}
 use mathlib.Core.List.{List}
@@ -8,7 +8,7 @@ use Rattle.excitation.specs.UncertaintySet.{empty}
 use Rattle.excitation.specs.declared.Excitation.{Excitation}
 use Rattle.block.specs.Block.{Choice, choiceCount}
 use Rattle.cases.specs.Case.{Case, undecided, decided}
-use Rattle.cases.specs.Search.{StoredCase, Found, setsAt, greatestUpper, outcomeOf}
+use Rattle.cases.specs.Search.{StoredCase, SearchEnd, setsAt, greatestUpper, outcomeOf}
 use Rattle.cases.specs.declared.Outcome.the-variants.{Spent}
 
 -- No pattern of a case gives more than its bound.
@@ -26,7 +26,7 @@ pub record Covered (pattern : List Excitation) (cases : List StoredCase) : Type 
   pub choice : Choice pattern (setsAt cases number)
 
 -- What a search of a frame gives, with every bound that keeps its promise and every choice that takes an undecided input.
-pub record Right (simulated : List Excitation → ℕ) (ratio budget : ℕ) (frame : Case) (found : Found) : Type 0 where
+pub record Right (simulated : List Excitation → ℕ) (ratio budget : ℕ) (frame : Case) (found : SearchEnd) : Type 0 where
   -- No pattern of the frame drops more than U.
   pub above : {pattern : List Excitation} → Choice pattern frame → simulated pattern ≤ greatestUpper (found .state .cases)
   -- The pattern handed over is one of the frame and drops L.

@@ -1,4 +1,4 @@
--- What the code reads from and writes to the case store.
+-- What the code reads from and writes to the case store (for document 01, "Search").
 use Prim.Native.Nat.{ℕ, _+_, _*_, _≤_, _<_, _^_}
 use mathlib.Core.List.{List, _++_}
 use mathlib.Core.Path.{_≡_}

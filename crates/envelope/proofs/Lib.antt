@@ -1,3 +1,3 @@
 pub mod Frame
-pub mod Outcomes
+pub mod Answers
 pub mod Soundness

@@ -1,4 +1,4 @@
--- Envelope (document 01, "Envelope").
+-- Envelope (document 01, "Envelope" and "Refusals in checking order"): its checks, its answer and its buffers.
 use Prim.Native.Nat.{ℕ}
 use mathlib.Core.List.{List, [], _∷_, _++_}
 use mathlib.Core.Path.{_≡_}

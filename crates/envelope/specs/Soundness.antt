@@ -1,4 +1,4 @@
--- The soundness of the envelope: what everything above it rests on.
+-- The soundness of the envelope (document 01, "Search"): the promise on which everything above it rests.
 use Prim.Native.Nat.{ℕ, _≤_}
 use mathlib.Core.List.{List}
 use Rattle.excitation.specs.UncertaintySet.{UncertaintySet}

@@ -26,6 +26,7 @@ fn print_end() {
     io::write_all(STDOUT_FILENO, b"\n");
 }
 
+// A line of `refused`, number, place.
 fn print_refusal(number: u64, place: u64) {
     io::write_all(STDOUT_FILENO, b"refused ");
     io::print_decimal(STDOUT_FILENO, number);
@@ -34,6 +35,7 @@ fn print_refusal(number: u64, place: u64) {
     print_end();
 }
 
+// The word of an outcome.
 fn print_outcome(outcome: Outcome) {
     match outcome {
         Outcome::Exact => {

@@ -1,4 +1,5 @@
--- Document 01's starred examples as one conjunction: those of sets, runs, blocks and currents, and those of the search.
+-- The starred examples (document 01, "Examples, starred ones proved") as one conjunction: those of sets, runs, blocks and currents, and
+-- those of the search.
 use Prim.Native.Nat.{ℕ}
 use mathlib.Core.List.{List, [], _∷_}
 use mathlib.Core.Path.{_≡_}

@@ -1,9 +1,12 @@
 -- Laws of a pattern's bytes and the excitations that they stand for.
 -- Assumes nothing.
-use Prim.Native.Nat.{ℕ, zero, suc, _≤_}
-use mathlib.Core.Path.{_≡_, refl}
+use Prim.Native.Nat.{ℕ, zero, suc, _≤_, _<_}
+use mathlib.Core.List.{List}
+use mathlib.Core.Path.{_≡_, refl, ap, sym, _∙_}
 use native.Mathlib.Omega.{arith}
-use Rattle.excitation.specs.Excitation.{l, excitationOf, byteOf}
+use lib.ListN.{length, getD}
+use Rattle.laws.proofs.Turn.{list-is}
+use Rattle.excitation.specs.Excitation.{l, excitationOf, byteOf, patternOf}
 use Rattle.excitation.specs.declared.Excitation.{Excitation}
 use Rattle.excitation.proofs.Finite.{for-each}
 
@@ -34,3 +37,11 @@ byte-forth (suc zero) h = refl
 byte-forth (suc (suc zero)) h = refl
 byte-forth (suc (suc (suc zero))) h = refl
 byte-forth (suc (suc (suc (suc n)))) h = absurd (omega arith)
+
+-- A buffer that has the byte of each of a pattern's excitations holds that pattern.
+pub pattern-read : (inputs : ℕ) (pattern : List Excitation) (bytes : List ℕ) → length pattern ≡ inputs
+    → ((net : ℕ) → net < inputs → getD bytes net 0 ≡ byteOf (getD pattern net l)) → patternOf inputs bytes ≡ pattern
+unfolding patternOf
+pattern-read inputs pattern bytes long each =
+    sym (list-is inputs (λ net. excitationOf (getD bytes net 0)) l pattern long
+    (λ net h. sym (ap excitationOf (each net h) ∙ byte-back (getD pattern net l))))

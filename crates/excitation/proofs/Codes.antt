@@ -1,17 +1,20 @@
--- Laws of the codes of uncertainty sets.
+-- Laws of the codes of uncertainty sets, and of the sets of the inputs, which are given by their codes.
 -- Assumes nothing.
 use Prim.Native.Nat.{ℕ, _+_, _*_, _/_, _%_, _≤_, _<_}
 use mathlib.Core.Bool.{Bool, true, _&&_, _||_, Bool·beq}
-use mathlib.Core.Path.{_≡_, refl, sym}
+use mathlib.Core.List.{List}
+use mathlib.Core.Path.{_≡_, refl, ap, sym}
 use native.Mathlib.Nat.{mul-add-mod-self-left}
 use native.Mathlib.Omega.{arith}
 use lib.Bits.{bitAnd}
 use lib.Dec.{eqb, ltb}
+use lib.ListN.{length, getD}
 use borrow.Author.Tests.{eqb-true, ltb-true}
 use Rattle.laws.specs.Below.{allBelow}
 use Rattle.laws.proofs.Below.{all-at}
 use Rattle.laws.proofs.Tests.{and-left, and-right, or-cases}
-use Rattle.excitation.specs.UncertaintySet.{UncertaintySet, member, _∈_, some, code, decode, each, invertSet}
+use Rattle.laws.proofs.Turn.{list-at, list-long, list-same}
+use Rattle.excitation.specs.UncertaintySet.{UncertaintySet, member, _∈_, empty, some, code, decode, setsIn, each, invertSet}
 use Rattle.excitation.specs.declared.Excitation.{Excitation}
 use Rattle.excitation.proofs.Finite.{every-at, setOf}
 use Rattle.excitation.proofs.Sets.{level-same, some-gives}
@@ -78,3 +81,19 @@ pub bits-small : (n : ℕ) → n < 16 → (bitAnd n 5 < 16) × (bitAnd n 10 < 16
 unfolding allBelow
 bits-small n h =
     (ltb-true _ _ (all-at 16 (λ n. ltb (bitAnd n 5) 16) n refl h), ltb-true _ _ (all-at 16 (λ n. ltb (bitAnd n 10) 16) n refl h))
+
+-- The sets of the inputs: one for each, by the byte of that input alone.
+
+pub set-at : (inputs : ℕ) (codes : List ℕ) (net : ℕ) → net < inputs → getD (setsIn inputs codes) net empty ≡ decode (getD codes net 0)
+unfolding setsIn
+set-at inputs codes net h = list-at inputs (λ net. decode (getD codes net 0)) net empty h
+
+pub sets-long : (inputs : ℕ) (codes : List ℕ) → length (setsIn inputs codes) ≡ inputs
+unfolding setsIn
+sets-long inputs codes = list-long inputs (λ net. decode (getD codes net 0))
+
+pub sets-same : (inputs : ℕ) (codes others : List ℕ) → ((net : ℕ) → net < inputs → getD codes net 0 ≡ getD others net 0)
+    → setsIn inputs codes ≡ setsIn inputs others
+unfolding setsIn
+sets-same inputs codes others same =
+    list-same inputs (λ net. decode (getD codes net 0)) (λ net. decode (getD others net 0)) empty (λ net h. ap decode (same net h))

@@ -24,7 +24,7 @@ abbrev bothLevels : (Bool → Bool) → Bool
 bothLevels p = p true && p false
 
 -- Whether a test passes at all sixteen sets.
-abbrev pub everySet : (UncertaintySet → Bool) → Bool
+abbrev everySet : (UncertaintySet → Bool) → Bool
 everySet p = bothLevels (λ a. bothLevels (λ b. bothLevels (λ c. bothLevels (λ d. p (setOf a b c d)))))
 
 both-at : (p : Bool → Bool) → bothLevels p ≡ true → (b : Bool) → p b ≡ true

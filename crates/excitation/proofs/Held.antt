@@ -2,6 +2,7 @@
 -- Assumes nothing.
 use mathlib.Core.Bool.{Bool, true, false, _&&_, _||_, not, false≢true}
 use mathlib.Core.Path.{_≡_, refl, sym, ap, _∙_}
+use borrow.Author.Tests.{not-true}
 use borrow.Table.Steps.{cases}
 use Rattle.laws.proofs.Tests.{and-left, and-right, or-cases}
 use Rattle.excitation.specs.Excitation.{TwoLevel, hl, lh}
@@ -13,13 +14,9 @@ use Rattle.excitation.proofs.Sets.{join-members}
 isHeld : UncertaintySet → Bool
 isHeld s = not (member hl s) && not (member lh s)
 
-off : (b : Bool) → not b ≡ true → b ≡ false
-off true e = absurd (false≢true e)
-off false e = refl
-
 held-so : (s : UncertaintySet) → isHeld s ≡ true → Held s
 unfolding isHeld
-held-so s e = record { no-hl = off _ (and-left _ _ e); no-lh = off _ (and-right (not (member hl s)) _ e) }
+held-so s e = record { no-hl = not-true _ (and-left _ _ e); no-lh = not-true _ (and-right (not (member hl s)) _ e) }
 
 so-held : (s : UncertaintySet) → Held s → isHeld s ≡ true
 unfolding isHeld

@@ -1,6 +1,6 @@
 -- Sets of one member: they are joined, and turned into another, as their members are.
 -- Assumes nothing.
-use mathlib.Core.Bool.{true, false, false≢true}
+use mathlib.Core.Bool.{false≢true}
 use mathlib.Core.Path.{_≡_, refl, sym, subst, ap, _∙_}
 use borrow.Table.Steps.{cases}
 use Rattle.excitation.specs.Excitation.{TwoLevel, same, joinExcitations}

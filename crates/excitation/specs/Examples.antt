@@ -1,5 +1,5 @@
--- Examples of excitations and sets: Figure 5 of document 000, document 01's starred examples, and the AND classes of source
--- document 001.
+-- Examples of excitations and sets (document 01, "Examples, starred ones proved"), with Figure 5 of document 000 and the AND classes of
+-- source document 001.
 use Prim.Native.Nat.{ℕ, zero, suc, _/_, _%_}
 use mathlib.Core.Path.{_≡_}
 use mathlib.Core.Bool.{cond, _&&_, _||_, xor}
@@ -10,20 +10,20 @@ use Rattle.excitation.specs.Excitation.{TwoLevel, Level, excitation, l, 
 use Rattle.excitation.specs.UncertaintySet.{code, decode, joinSets, size}
 
 -- l, h, hl and lh, in the order of Figure 5.
-abbrev pub excitations : List Excitation
+abbrev excitations : List Excitation
 excitations = l ∷ h ∷ hl ∷ lh ∷ []
 
 -- Figure 5's square for a function of two levels: a row for each first excitation.
-abbrev pub square : TwoLevel → List (List Excitation)
+abbrev square : TwoLevel → List (List Excitation)
 square f = map (λ a. map (λ b. joinExcitations f a b) excitations) excitations
 
 -- The binary digit of n that has this weight.
-abbrev pub bit : ℕ → ℕ → Level
+abbrev bit : ℕ → ℕ → Level
 bit n weight = eqb (n / weight % 2) 1
 
 -- The output transition of row n of document 001's table of a two-input AND gate. The four binary digits of n are the two inputs
 -- before, then the two inputs after.
-abbrev pub outputOf : ℕ → Excitation
+abbrev outputOf : ℕ → Excitation
 outputOf n = joinExcitations _&&_ (excitation (bit n 8) (bit n 2)) (excitation (bit n 4) (bit n 1))
 
 -- The rows below n whose output is e.

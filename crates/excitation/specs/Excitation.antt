@@ -1,4 +1,4 @@
--- Excitations (document 01, "Excitations and sets").
+-- Excitations (document 01, "Excitations and sets") and patterns of them ("Levels and simulation").
 use Prim.Native.Nat.{ℕ}
 use mathlib.Core.Bool.{Bool, true, false, not, cond, _&&_, _||_, xor, Bool·beq}
 use mathlib.Core.List.{List, [], _∷_}
@@ -65,6 +65,6 @@ excitationOf byte = getD (l ∷ h ∷ hl ∷ lh ∷ []) byte l
 unfoldable pub byteOf : Excitation → ℕ
 byteOf e = cond (e .before) (cond (e .after) 1 2) (cond (e .after) 3 0)
 
--- Byte i of a pattern is for input net i; bytes past the inputs are not read.
+-- Document 01's pattern, from its bytes: byte i is for input net i; bytes past the inputs are not read.
 unfoldable pub patternOf : ℕ → List ℕ → List Excitation
 patternOf inputs bytes = listBelow inputs (λ net. excitationOf (getD bytes net 0))

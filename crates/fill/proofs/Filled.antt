@@ -117,7 +117,7 @@ module _ (hops : ℕ) (xs : List UncertaintySet) (long : length xs ≡ 256) wher
   -- Sets that are the same from tick s on stay as they are from there on.
 
   module _ (s : ℕ) (same : (t : ℕ) → s ≤ t → t < 256 → getD xs t empty ≡ getD xs s empty) where
-    pub filled-kept : (t : ℕ) → s ≤ t → t < 256 → getD (filled hops xs) t empty ≡ getD xs t empty
+    filled-kept : (t : ℕ) → s ≤ t → t < 256 → getD (filled hops xs) t empty ≡ getD xs t empty
     filled-kept t after within = set-is (getD (filled hops xs) t empty) (getD xs t empty) each
       where
         none-after : (e : Excitation) → member e (getD xs s empty) ≡ false → (u : ℕ) → s ≤ u → member e (getD xs u empty) ≡ false

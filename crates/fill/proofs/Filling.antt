@@ -2,7 +2,7 @@
 -- one after another. It comes to the filled sets.
 -- Assumes nothing.
 use Prim.Native.Nat.{ℕ, suc, _+_, _-_, _≤_, _<_}
-use mathlib.Core.Bool.{true, false, _&&_, _||_, and-true, and-false, or-false, false≢true}
+use mathlib.Core.Bool.{false, _&&_, _||_, and-true, and-false, or-false, false≢true}
 use mathlib.Core.List.{List}
 use mathlib.Core.Path.{_≡_, refl, sym, subst, ap, _∙_}
 use native.Mathlib.Omega.{arith}
@@ -18,7 +18,7 @@ use Rattle.excitation.proofs.Finite.{for-each}
 use Rattle.excitation.proofs.Sets.{same-self}
 use Rattle.fill.specs.Codes.{setsOf, Codes, Settled, Filled}
 use Rattle.fill.specs.Fill.{fillTicks}
-use Rattle.fill.specs.Filling.{ticksOf, Added, Only, GapFilled, OneFilled, runsOf}
+use Rattle.fill.specs.Filling.{ticksOf, Added, OneChanged, GapFilled, OneFilled, runsOf}
 use Rattle.fill.specs.Runs.{gap, merged, closeShortest, inside}
 use Rattle.fill.specs.Scan.{inGap, shortestGap}
 use Rattle.fill.proofs.Codes.{length-ticks, ticks-at, same-ticks}
@@ -26,7 +26,7 @@ use Rattle.fill.proofs.Filled.{filled-is, filled-same}
 use Rattle.fill.proofs.Gaps.{Closed, closed-length, closed-apart, gap-before, gap-end, in-or-out, inside-closed, closes}
 use Rattle.fill.proofs.Merged.{merged-done, merged-step}
 use Rattle.fill.proofs.Runs.{Apart, inside-runs, runs-are}
-use Rattle.fill.proofs.Ticks.{apart, fill-is}
+use Rattle.fill.proofs.Ticks.{all-apart, fill-is}
 
 -- The ticks of a gap, one after another.
 
@@ -96,7 +96,7 @@ module _ (e : Excitation) (start size : ℕ) (given : List ℕ) (fine : Codes gi
   long = length-ticks e given ∙ fine .long
 
   apart-given : Apart 0 256 (runsOf e given)
-  apart-given = apart 0 (ticksOf e given) long
+  apart-given = all-apart (ticksOf e given) long
 
   closing : Closed (gap start size) (runsOf e given) (closeShortest (runsOf e given))
   closing = subst (λ g. Closed g (runsOf e given) (closeShortest (runsOf e given))) (sym shortest) (closes apart-given two)
@@ -152,7 +152,7 @@ module _ (e : Excitation) (start size : ℕ) (given : List ℕ) (fine : Codes gi
 
 -- Gaps of an excitation were filled, and filling the rest comes to what filling all of them does.
 pub record Filling (hops last : ℕ) (e : Excitation) (given after : List ℕ) : Type 0 where
-  pub only : Only last e given after
+  pub only : OneChanged last e given after
   pub merge : merged hops (runsOf e after) ≡ merged hops (runsOf e given)
 
 pub filling-none : (hops last : ℕ) (e : Excitation) (codes : List ℕ) → Codes codes → Settled last codes → Filling hops last e codes codes
@@ -166,7 +166,7 @@ module _ (hops last : ℕ) (some : 1 ≤ hops) (e : Excitation) (given codes : L
   long-now = length-ticks e codes ∙ so-far .only .codes .long
 
   apart-now : Apart 0 256 (runsOf e codes)
-  apart-now = apart hops (ticksOf e codes) long-now
+  apart-now = all-apart (ticksOf e codes) long-now
 
   module _ (after : List ℕ) (many : hops < length (runsOf e codes)) (one : GapFilled last e codes after) where
     pub filling-more : Filling hops last e given after

@@ -21,9 +21,9 @@ pub data Apart : ℕ → ℕ → List Run → Type 0 where
   next : {t end first last : ℕ} {rest : List Run} → t ≤ first → first ≤ last → last < end → Apart (suc (suc last)) end rest
       → Apart t end (run first last ∷ rest)
 
-earlier : {t u end : ℕ} {rs : List Run} → u ≤ t → Apart t end rs → Apart u end rs
-earlier before none = none
-earlier {t} {u} before (next {first = first} low ordered high more) = let q : u ≤ first = omega arith in next q ordered high more
+apart-earlier : {t u end : ℕ} {rs : List Run} → u ≤ t → Apart t end rs → Apart u end rs
+apart-earlier before none = none
+apart-earlier {t} {u} before (next {first = first} low ordered high more) = let q : u ≤ first = omega arith in next q ordered high more
 
 -- A run takes a tick, and so does the gap after it.
 pub apart-few : {t end : ℕ} {rs : List Run} → Apart t end rs → 2 * length rs ≤ suc end - t
@@ -68,7 +68,7 @@ runs-apart t (true ∷ later) =
     extend-apart (omega arith) (subst (λ end. Apart (suc t) end (runsFrom (suc t) later)) e (runs-apart (suc t) later))
 runs-apart t (false ∷ later) =
     let e : suc t + length later ≡ t + suc (length later) = omega arith in
-    earlier (omega arith) (subst (λ end. Apart (suc t) end (runsFrom (suc t) later)) e (runs-apart (suc t) later))
+    apart-earlier (omega arith) (subst (λ end. Apart (suc t) end (runsFrom (suc t) later)) e (runs-apart (suc t) later))
 
 -- Inside a run.
 
@@ -203,7 +203,7 @@ module _ (end : ℕ) where
   first-alone t n rest again more =
       ap (λ held. extend t (runsFrom (suc t) held))
       (same-inside (run t t ∷ rest) rest (suc t) n (λ u h. inside-rest u t t rest (λ p q. omega arith)))
-      ∙ ap (extend t) (again rest (earlier (omega arith) more))
+      ∙ ap (extend t) (again rest (apart-earlier (omega arith) more))
       ∙ extend-alone more
 
   first-longer : (t n last : ℕ) (rest : List Run) → Again (suc t) n → t < last → last < end → Apart (suc (suc last)) end rest

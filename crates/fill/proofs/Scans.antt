@@ -16,7 +16,7 @@ use Rattle.laws.specs.Below.{digit}
 use Rattle.fill.specs.Runs.{Run, run, Gap, gap, extend, runsFrom, runs, gapsAfter, gaps, shorter, shortest}
 use Rattle.fill.specs.Scan.{begun, changes, withGapBefore, scanned, shortestGap}
 use Rattle.fill.proofs.Runs.{Apart, none, next, extend-grows, extend-new, grows-or-new, runs-apart}
-use Rattle.fill.proofs.Ticks.{apart}
+use Rattle.fill.proofs.Ticks.{all-apart}
 
 -- How many of some runs begin, where the tick before tick t is held: one from tick t on has begun already.
 
@@ -104,7 +104,7 @@ over-all g (next {first = first} {last = last} {rest = rest} low ordered high mo
 
 pub scanned-shortest : (held : List Bool) → length held ≡ 256 → scanned 0 held 256 (gap 0 256) ≡ shortestGap (runs held)
 unfolding shortestGap
-scanned-shortest held long = scanned-runs 0 held 256 (gap 0 256) ∙ over-all (gap 0 256) (apart 0 held long)
+scanned-shortest held long = scanned-runs 0 held 256 (gap 0 256) ∙ over-all (gap 0 256) (all-apart held long)
 
 -- Ticks, or codes, that stay the same from the one numbered `last` on.
 

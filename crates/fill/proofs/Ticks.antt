@@ -18,9 +18,13 @@ pub length-fill : (hops : ℕ) (held : List Bool) → length (fillTicks hops hel
 unfolding fillTicks
 length-fill hops held = length-inside (merged hops (runs held)) 0 (length held)
 
+-- The runs of 256 ticks lie apart among them.
+pub all-apart : (held : List Bool) → length held ≡ 256 → Apart 0 256 (runs held)
+all-apart held long = subst (λ end. Apart 0 end (runs held)) (zero-add (length held) ∙ long) (runs-apart 0 held)
+
 module _ (hops : ℕ) (held : List Bool) (long : length held ≡ 256) where
-  pub apart : Apart 0 256 (runs held)
-  apart = subst (λ end. Apart 0 end (runs held)) (zero-add (length held) ∙ long) (runs-apart 0 held)
+  apart : Apart 0 256 (runs held)
+  apart = all-apart held long
 
   fill-at : (t : ℕ) → getD (fillTicks hops held) t false ≡ inside t (merged hops (runs held))
   unfolding fillTicks
@@ -61,4 +65,4 @@ module _ (hops : ℕ) (held : List Bool) (long : length held ≡ 256) where
 
 -- 256 ticks have at most 128 runs.
 pub few-runs : (held : List Bool) → length held ≡ 256 → length (runs held) ≤ 128
-few-runs held long = omega (arith, apart-few (apart 0 held long))
+few-runs held long = omega (arith, apart-few (all-apart held long))

@@ -1,4 +1,4 @@
--- Waveforms as the code has them: the codes of the sets at ticks 0 to 255.
+-- What the code fills (for document 01, "Envelope"): the codes of the sets at ticks 0 to 255, and what becomes of them.
 use Prim.Native.Nat.{ℕ, _≤_, _<_}
 use mathlib.Core.List.{List, map}
 use mathlib.Core.Path.{_≡_}

@@ -1,4 +1,4 @@
--- Document 01's starred examples of runs, and more that tell the definitions apart.
+-- Examples of runs and filling (document 01, "Examples, starred ones proved"), and more that tell the definitions apart.
 use Prim.Native.Nat.{ℕ, zero, suc}
 use mathlib.Core.Bool.{Bool, true, false}
 use mathlib.Core.List.{List, [], _∷_, map}
@@ -9,10 +9,10 @@ use Rattle.fill.specs.Fill.{fillTicks, filled}
 use Rattle.fill.specs.Runs.{run, runs, merged}
 
 -- 256 ticks, held at 2, 4, 9, and at 2, 4, 6.
-abbrev pub at249 : List Bool
+abbrev at249 : List Bool
 at249 = false ∷ false ∷ true ∷ false ∷ true ∷ false ∷ false ∷ false ∷ false ∷ true ∷ replicate 246 false
 
-abbrev pub at246 : List Bool
+abbrev at246 : List Bool
 at246 = false ∷ false ∷ true ∷ false ∷ true ∷ false ∷ true ∷ replicate 249 false
 
 -- Every other tick, n times.

@@ -1,4 +1,5 @@
--- What the code does to the codes of a waveform's sets, one excitation after another and one gap after another.
+-- What the code does to the codes of a waveform's sets (for document 01, "Envelope"), one excitation after another and one gap after
+-- another.
 use Prim.Native.Nat.{ℕ, _<_}
 use mathlib.Core.Bool.{Bool, false, _||_}
 use mathlib.Core.List.{List}
@@ -24,17 +25,17 @@ pub record Added (e : Excitation) (given after : ℕ) : Type 0 where
   pub members : (f : Excitation) → member f (decode after) ≡ (member f (decode given) || same f e)
 
 -- The codes after at most the ticks of one excitation changed. They are the same from tick `last` on, as they were before.
-pub record Only (last : ℕ) (e : Excitation) (given after : List ℕ) : Type 0 where
+pub record OneChanged (last : ℕ) (e : Excitation) (given after : List ℕ) : Type 0 where
   pub codes : Codes after
   pub settled : Settled last after
   pub others : (f : Excitation) → same f e ≡ false → ticksOf f after ≡ ticksOf f given
 
 -- The codes after the shortest gap of an excitation was filled.
 pub record GapFilled (last : ℕ) (e : Excitation) (given after : List ℕ) : Type 0 where
-  pub only : Only last e given after
+  pub only : OneChanged last e given after
   pub closed : runsOf e after ≡ closeShortest (runsOf e given)
 
 -- The codes after an excitation was filled.
 pub record OneFilled (hops last : ℕ) (e : Excitation) (given after : List ℕ) : Type 0 where
-  pub only : Only last e given after
+  pub only : OneChanged last e given after
   pub ticks : ticksOf e after ≡ fillTicks hops (ticksOf e given)

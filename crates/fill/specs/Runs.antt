@@ -5,11 +5,11 @@ use mathlib.Core.List.{List, [], _∷_}
 use lib.Dec.{eqb, leb, ltb}
 use lib.ListN.{length}
 
--- A run of ticks that hold an excitation: its first tick and its last.
+-- Document 01's run, of ticks that hold an excitation: its first tick and its last.
 pub data Run : Type 0 where
   run : ℕ → ℕ → Run
 
--- A gap between two runs: its first tick and how many ticks it has.
+-- Document 01's gap between two runs: its first tick and how many ticks it has.
 pub data Gap : Type 0 where
   gap : ℕ → ℕ → Gap
 

@@ -1,4 +1,4 @@
--- What the code goes by in place of the lists of runs and gaps, tick by tick.
+-- What the code goes by in place of the lists of runs and gaps (for document 01, "Envelope"), tick by tick.
 use Prim.Native.Nat.{ℕ, suc, _+_, _-_}
 use mathlib.Core.Bool.{Bool, true, false, cond, not, _&&_}
 use mathlib.Core.List.{List, [], _∷_}

@@ -55,12 +55,6 @@ all-fails (suc n) p k h e =
     ⊎-elim (λ (q : k ≡ n). and-second-fails (allBelow n p) (rw q at e)) (λ l. rw (all-fails n p k l e) refl)
     (eq-or-lt-of-le (le-of-suc-le-suc h))
 
--- Tests that are the same number by number.
-pub all-same : (n : ℕ) (p q : ℕ → Bool) → ((k : ℕ) → k < n → p k ≡ q k) → allBelow n p ≡ allBelow n q
-unfolding allBelow
-all-same zero p q same = refl
-all-same (suc n) p q same = rw (all-same n p q (λ k h. same k (omega arith)), same n (omega arith)) refl
-
 -- One number that passes is enough.
 pub any-found : (n : ℕ) (p : ℕ → Bool) (k : ℕ) → k < n → p k ≡ true → anyBelow n p ≡ true
 unfolding anyBelow
@@ -120,6 +114,11 @@ count-first (suc n) p f k h =
     (eq-or-lt-of-le (le-of-suc-le-suc h)))
 
 -- Tests that are the same, number by number.
+
+pub all-same : (n : ℕ) (p q : ℕ → Bool) → ((k : ℕ) → k < n → p k ≡ q k) → allBelow n p ≡ allBelow n q
+unfolding allBelow
+all-same zero p q same = refl
+all-same (suc n) p q same = rw (all-same n p q (λ k h. same k (omega arith)), same n (omega arith)) refl
 
 pub any-same : (n : ℕ) (p q : ℕ → Bool) → ((k : ℕ) → k < n → p k ≡ q k) → anyBelow n p ≡ anyBelow n q
 unfolding anyBelow

@@ -13,12 +13,12 @@ use Rattle.evaluation.specs.Arguments.{hopsRight, ratioRight}
 use Rattle.search.specs.Search.{limitChecks, bufferChecks}
 
 -- What an accepted hop limit, ratio and budget are.
-pub record Limits (hops ratio budget : ℕ) : Type 0 where
+pub record LimitsRight (hops ratio budget : ℕ) : Type 0 where
   pub some-hops : 1 ≤ hops
   pub ratio-high : ratio ≤ 10000
   pub budget-high : budget ≤ 10000
 
-pub limits-right : (hops table ratio budget : ℕ) → verdict (limitChecks hops table ratio budget) ≡ Accepted → Limits hops ratio budget
+pub limits-right : (hops table ratio budget : ℕ) → verdict (limitChecks hops table ratio budget) ≡ Accepted → LimitsRight hops ratio budget
 unfolding limitChecks hopsRight ratioRight within
 limits-right hops table ratio budget e =
     let a = passed 11 0 _ _ e in
@@ -32,14 +32,14 @@ limits-right hops table ratio budget e =
     }
 
 -- What accepted lengths of sheet, pattern, work buffer and case store are.
-pub record Buffers (nets budget sheet pattern work store : ℕ) : Type 0 where
+pub record BuffersRight (nets budget sheet pattern work store : ℕ) : Type 0 where
   pub sheet-long : sheet ≡ 8192
   pub pattern-long : pattern ≡ 64
   pub work-long : 160 * nets ≤ work
   pub store-long : 72 * (1 + 3 * budget) ≤ store
 
 pub buffers-right : (nets budget sheet pattern work store : ℕ) → verdict (bufferChecks nets budget sheet pattern work store) ≡ Accepted
-    → Buffers nets budget sheet pattern work store
+    → BuffersRight nets budget sheet pattern work store
 unfolding bufferChecks
 buffers-right nets budget sheet pattern work store e =
     let a = passed 15 1 _ _ e in

@@ -28,7 +28,7 @@ use Rattle.evaluation.specs.declared.CurrentsAnswer.the-variants as currents
 use Rattle.envelope.proofs.Soundness.{soundness}
 use Rattle.cases.specs.Choice.{coneSizes}
 use Rattle.cases.specs.Promise.{Right}
-use Rattle.cases.specs.Search.{Found, greatestUpper, outcomeOf}
+use Rattle.cases.specs.Search.{SearchEnd, greatestUpper, outcomeOf}
 use Rattle.cases.specs.Store.{patternWith}
 use Rattle.cases.specs.declared.Outcome.{Outcome}
 use Rattle.cases.proofs.Chosen.{chosen-undecided}
@@ -37,8 +37,7 @@ use Rattle.cases.proofs.Right.{search-right, sheet-above}
 use Rattle.simulator.specs.Simulate.{bytesFrom, sizeChecks, simulateVerdict, patternSheet, Simulated}
 use Rattle.simulator.proofs.Patterns.{pattern-chosen}
 use Rattle.search.specs.Agreement.{Agrees, Agreement}
-use Rattle.search.specs.Search.{simulatedDrop, envelopeDrop, chooseIn, searchOf, sheetOver, limitChecks, bufferChecks, searchVerdict, foundAnswer, Searched}
-use Rattle.search.specs.Search as operation
+use Rattle.search.specs.Search.{simulatedDrop, envelopeDrop, chooseIn, searchOf, sheetOver, limitChecks, bufferChecks, searchVerdict, foundAnswer, searchAnswerAfter, Searched}
 use Rattle.search.specs.declared.SearchAnswer.the-variants as answer
 use Rattle.search.proofs.Frame.{frame-probe, pattern-room, pattern-back, pattern-passes}
 
@@ -50,9 +49,9 @@ flowing-accepted (verdict-is.Refused r) drop quiet d q e = absurd (let z : _≡_
 
 -- What an accepted simulation is.
 record AcceptedSimulation (file : File) (table bytes : List ℕ) (drop : ℕ) (simulated : List ℕ) : Type 0 where
-  pub choice : Choice (patternOf (inputCount file) bytes) (frame file)
-  pub drop-is : drop ≡ dropOf table (patternSheet file bytes)
-  pub sheet-is : simulated ≡ sheetWords (patternSheet file bytes)
+  choice : Choice (patternOf (inputCount file) bytes) (frame file)
+  drop-is : drop ≡ dropOf table (patternSheet file bytes)
+  sheet-is : simulated ≡ sheetWords (patternSheet file bytes)
 
 simulation-accepted : (file : File) (table given bytes work : List ℕ) (drop quiet : ℕ) (simulated work′ : List ℕ)
     → Simulated file table given bytes work (currents.Flowing drop quiet) simulated work′ → AcceptedSimulation file table bytes drop simulated
@@ -70,19 +69,19 @@ simulation-accepted file table given bytes work drop quiet simulated work′ s =
 -- What an accepted search is.
 record AcceptedSearch (file : File) (hops : ℕ) (table : List ℕ) (ratio budget : ℕ) (given : List ℕ)
     (o : Outcome) (upper lower splits : ℕ) (sheet pattern : List ℕ) : Type 0 where
-  pub file-accepted : AcceptedFile file (netCount file) (inputCount file)
-  pub read-passed : verdict (readChecks file) ≡ verdict-is.Accepted
-  pub limits-passed : verdict (limitChecks hops (length table) ratio budget) ≡ verdict-is.Accepted
-  pub pattern-room : length given ≡ 64
-  pub outcome-is : o ≡ searchOf file hops table ratio budget .outcome
-  pub upper-is : upper ≡ greatestUpper (searchOf file hops table ratio budget .state .cases)
-  pub lower-is : lower ≡ searchOf file hops table ratio budget .state .best .lower
-  pub splits-is : splits ≡ searchOf file hops table ratio budget .splits
-  pub sheet-is : sheet ≡ sheetWords (sheetOver file hops (searchOf file hops table ratio budget .state .cases))
-  pub pattern-is : pattern ≡ patternWith (searchOf file hops table ratio budget .state .best .pattern) given
+  file-accepted : AcceptedFile file (netCount file) (inputCount file)
+  read-passed : verdict (readChecks file) ≡ verdict-is.Accepted
+  limits-passed : verdict (limitChecks hops (length table) ratio budget) ≡ verdict-is.Accepted
+  pattern-room : length given ≡ 64
+  outcome-is : o ≡ searchOf file hops table ratio budget .outcome
+  upper-is : upper ≡ greatestUpper (searchOf file hops table ratio budget .state .cases)
+  lower-is : lower ≡ searchOf file hops table ratio budget .state .best .lower
+  splits-is : splits ≡ searchOf file hops table ratio budget .splits
+  sheet-is : sheet ≡ sheetWords (sheetOver file hops (searchOf file hops table ratio budget .state .cases))
+  pattern-is : pattern ≡ patternWith (searchOf file hops table ratio budget .state .best .pattern) given
 
-found-accepted : (v : Verdict) (found : Found) (o : Outcome) (upper lower splits cases : ℕ)
-    → answer.Found o upper lower splits cases ≡ operation.answerAfter v found
+found-accepted : (v : Verdict) (found : SearchEnd) (o : Outcome) (upper lower splits cases : ℕ)
+    → answer.Found o upper lower splits cases ≡ searchAnswerAfter v found
     → (v ≡ verdict-is.Accepted) × (o ≡ found .outcome) × (upper ≡ greatestUpper (found .state .cases)) × (lower ≡ found .state .best .lower) × (splits ≡ found .splits)
 unfolding foundAnswer
 found-accepted verdict-is.Accepted found o upper lower splits cases e = (refl, cc, cc, cc, cc)
@@ -119,7 +118,7 @@ search-accepted file hops table ratio budget sheet pattern work store o upper lo
 
 module _ (file : File) (hops : ℕ) (table : List ℕ) (ratio budget : ℕ) (given : List ℕ)
     (o : Outcome) (upper lower splits : ℕ) (sheet pattern : List ℕ) (ended : AcceptedSearch file hops table ratio budget given o upper lower splits sheet pattern) where
-  abbrev found : Found
+  abbrev found : SearchEnd
   found = searchOf file hops table ratio budget
 
   right : Right (simulatedDrop file table) ratio budget (frame file) found

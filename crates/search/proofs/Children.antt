@@ -18,13 +18,12 @@ use Rattle.laws.proofs.Turn.{list-is}
 use Rattle.excitation.specs.Excitation.{excitationOf}
 use Rattle.excitation.specs.UncertaintySet.{UncertaintySet, member, empty, code, decode, single, setsIn}
 use Rattle.excitation.specs.declared.Excitation.{Excitation}
-use Rattle.excitation.proofs.Codes.{code-below, decode-code}
+use Rattle.excitation.proofs.Codes.{code-below, decode-code, set-at, sets-long}
 use Rattle.excitation.proofs.Finite.{for-each}
 use Rattle.block.specs.Record.{File}
 use Rattle.cases.specs.Case.{Case, membersBelow, childrenBelow}
 use Rattle.cases.specs.Records.{SetCodes}
-use Rattle.cases.proofs.Codes.{set-at, sets-long}
-use Rattle.search.specs.Steps.{Made, ChildMade, childCodes}
+use Rattle.search.specs.Steps.{CaseMade, ChildMade, childCodes}
 use Rattle.search.specs.declared.Step.{Step}
 
 single-low : (x : Excitation) → 1 ≤ code (single x)
@@ -95,7 +94,7 @@ child-skipped {parent} {input} {e} is tested h =
 pub child-made : {file : File} {inputs hops : ℕ} {table parent : List ℕ} {input e cap : ℕ} {step : Step} {store pattern : List ℕ}
     {x : Excitation} {allowed : Bool} {codes : List ℕ} {cases goal : ℕ} {store′ pattern′ : List ℕ}
     → x ≡ excitationOf e → allowed ≡ member x (decode (getD parent input 0)) → not allowed ≡ false
-    → codes ≡ childCodes parent input e → Made file inputs hops table codes cap (step .goal) (step .next .0) store pattern goal store′ pattern′
+    → codes ≡ childCodes parent input e → CaseMade file inputs hops table codes cap (step .goal) (step .next .0) store pattern goal store′ pattern′
     → cases ≡ max (step .next .0 + 1) (step .cases)
     → ChildMade file inputs hops table parent input e cap step store pattern (record { cases = cases; next = record { 0 = cases }; goal = goal }) store′ pattern′
 child-made {parent} {input} {e} is tested h coded made count =

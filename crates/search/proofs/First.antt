@@ -22,7 +22,7 @@ use Rattle.cases.specs.Store.{patternByte}
 use Rattle.cases.proofs.Codes.{probe-low, probe-read}
 use Rattle.cases.proofs.Records.{caseOf, cases-appended, has-appended}
 use Rattle.search.specs.Search.{simulatedDrop, envelopeDrop}
-use Rattle.search.specs.Steps.{ownUpper, Made, bestIn, stateIn, Running, PastKept}
+use Rattle.search.specs.Steps.{ownUpper, CaseMade, bestIn, stateIn, Running, PastKept, FirstMade}
 
 -- The frame's codes are those of sets that are not empty, and their sets are the frame.
 module _ {file : File} {nets inputs : ℕ} (accepted : AcceptedFile file nets inputs) {codes : List ℕ}
@@ -58,7 +58,7 @@ state-is e f = λ i. record { cases = e i; best = f i }
 -- The first case is made, at the first place, under a cap that is above every upper number and with every drop enough to be the best.
 module _ {file : File} {nets inputs hops : ℕ} (accepted : AcceptedFile file nets inputs) {table codes : List ℕ}
     (coded : Rewritten (allowed file) 0 inputs (replicate 64 0) codes) {cap goal : ℕ} {store pattern store′ pattern′ : List ℕ}
-    (made : Made file inputs hops table codes cap 0 0 store pattern goal store′ pattern′) (high : 2 ^ 46 ≤ cap) where
+    (made : CaseMade file inputs hops table codes cap 0 0 store pattern goal store′ pattern′) (high : 2 ^ 46 ≤ cap) where
   abbrev own : ℕ
   own = ownUpper file hops table (setsIn inputs codes)
 
@@ -90,13 +90,13 @@ module _ {file : File} {nets inputs hops : ℕ} (accepted : AcceptedFile file ne
   unfolding firstState firstBest
   of-frame sets e = ap (firstState (simulatedDrop file table) (envelopeDrop file hops table)) e
 
-  pub first-state : stateIn inputs 1 goal store′ pattern′ ≡ firstState (simulatedDrop file table) (envelopeDrop file hops table) (frame file)
+  first-state : stateIn inputs 1 goal store′ pattern′ ≡ firstState (simulatedDrop file table) (envelopeDrop file hops table) (frame file)
   unfolding stateIn bestIn ownUpper
   first-state =
       state-is first-cases (best-is (omega (arith, reached .0)) (probe-read inputs codes (reached .1)))
       ∙ of-frame (setsIn inputs codes) (frame-sets accepted coded)
 
-  pub first-running : length pattern ≡ 64 → 72 ≤ length store → Running inputs 1 goal store′ pattern′
+  first-running : length pattern ≡ 64 → 72 ≤ length store → Running inputs 1 goal store′ pattern′
   first-running long room = record {
     cases = has-appended inputs (accepted .few-inputs) codes (codes-long accepted coded) (min cap own) 0 store store′ (made .stored) 0
         (frame-coded accepted coded) capped-low (no-cases inputs store) refl room (omega arith);
@@ -107,10 +107,13 @@ module _ {file : File} {nets inputs hops : ℕ} (accepted : AcceptedFile file ne
     pattern-low = probe-low inputs codes (reached .1);
   }
 
-  pub first-kept : PastKept inputs 1 store pattern store′ pattern′
+  first-kept : PastKept inputs 1 store pattern store′ pattern′
   first-kept = record {
     store-long = made .stored .long;
     store-past = λ j h. made .stored .rest j (inr (omega arith));
     pattern-long = reached .1 .long;
     pattern-past = λ j h. reached .1 .rest j (inr (omega arith));
   }
+
+  pub first-made : length pattern ≡ 64 → 72 ≤ length store → FirstMade file inputs hops table store pattern goal store′ pattern′
+  first-made long room = record { state = first-state; running = first-running long room; past = first-kept }

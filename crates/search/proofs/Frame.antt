@@ -1,19 +1,18 @@
 -- Laws of the frame of an accepted file: none of its sets is empty, and the bytes of each of its patterns pass check 16.
 -- Assumes nothing.
-use Prim.Native.Nat.{ℕ, zero, suc, _+_, _≤_, _<_}
+use Prim.Native.Nat.{ℕ, _≤_, _<_}
 use mathlib.Core.Bool.{true}
 use mathlib.Core.List.{List, map}
-use mathlib.Core.Path.{_≡_, ap, sym, subst, _∙_}
+use mathlib.Core.Path.{_≡_, sym, subst, _∙_}
 use native.Mathlib.Omega.{arith}
 use lib.ListN.{length, getD, drop, length-append, length-drop, length-map, List·getD-append, List·getD-map}
 use borrow.Author.Tests.{le-leb}
 use Rattle.laws.proofs.Pairs.{pairs-in, pairs-long}
 use Rattle.laws.proofs.Tests.{and-both}
-use Rattle.laws.proofs.Turn.{list-is}
-use Rattle.excitation.specs.Excitation.{l, excitationOf, byteOf, patternOf}
+use Rattle.excitation.specs.Excitation.{l, byteOf, patternOf}
 use Rattle.excitation.specs.UncertaintySet.{_∈_, decode, empty}
 use Rattle.excitation.specs.declared.Excitation.{Excitation}
-use Rattle.excitation.proofs.Bytes.{byte-low, byte-back}
+use Rattle.excitation.proofs.Bytes.{byte-low, byte-back, pattern-read}
 use Rattle.block.specs.Accepted.{AcceptedFile}
 use Rattle.block.specs.Block.{frame, inputCount, Choice}
 use Rattle.block.specs.Record.{File, allowed}
@@ -21,11 +20,11 @@ use Rattle.block.specs.Verdict.{verdict}
 use Rattle.block.specs.declared.Verdict.the-variants as verdict-is
 use Rattle.block.proofs.Accepted.{allows-some}
 use Rattle.block.proofs.Frames.{frame-at, frame-long}
-use Rattle.block.proofs.Verdicts.{passes, all-passed}
 use Rattle.cases.specs.Case.{probe}
 use Rattle.cases.specs.Store.{patternWith}
 use Rattle.cases.proofs.Cases.{probe-chosen}
 use Rattle.simulator.specs.Simulate.{byteAllowed, bytesFrom}
+use Rattle.simulator.proofs.Patterns.{bytes-pass}
 
 -- The frame's probe is one of its patterns.
 pub frame-probe : (file : File) (nets inputs : ℕ) → AcceptedFile file nets inputs → Choice (probe (frame file)) (frame file)
@@ -53,10 +52,7 @@ module _ (file : File) (pattern : List Excitation) (given : List ℕ) (choice : 
       omega (arith, all, length-map pattern byteOf, length-drop (length pattern) given, pattern-long)
 
   pub pattern-back : patternOf (inputCount file) (patternWith pattern given) ≡ pattern
-  unfolding patternOf
-  pattern-back =
-      sym (list-is (inputCount file) (λ net. excitationOf (getD (patternWith pattern given) net 0)) l pattern pattern-long
-      (λ net h. sym (ap excitationOf (byte-in net h) ∙ byte-back (getD pattern net l))))
+  pattern-back = pattern-read (inputCount file) pattern (patternWith pattern given) pattern-long byte-in
 
   allowed-here : (net : ℕ) → net < inputCount file → byteAllowed file net (getD (patternWith pattern given) net 0) ≡ true
   unfolding byteAllowed
@@ -66,12 +62,6 @@ module _ (file : File) (pattern : List Excitation) (given : List ℕ) (choice : 
       (subst (λ e. e ∈ decode (allowed file net)) (sym (byte-back (getD pattern net l)))
       (subst (λ s. getD pattern net l ∈ s) (frame-at file net h) (pairs-in _∈_ choice l empty net (rw pattern-long h)))))
 
-  bytes-pass : (net n : ℕ) → net + n ≤ inputCount file → verdict (bytesFrom file (patternWith pattern given) net n) ≡ verdict-is.Accepted
-  unfolding bytesFrom
-  bytes-pass net zero h = sym all-passed
-  bytes-pass net (suc n) h =
-      sym (passes 16 net (bytesFrom file (patternWith pattern given) (suc net) n) (allowed-here net (omega arith)) (sym (bytes-pass (suc net) n (omega arith))))
-
   -- Check 16 lets it pass.
   pub pattern-passes : verdict (bytesFrom file (patternWith pattern given) 0 (inputCount file)) ≡ verdict-is.Accepted
-  pattern-passes = bytes-pass 0 (inputCount file) (omega arith)
+  pattern-passes = bytes-pass file (patternWith pattern given) 0 (inputCount file) (λ net low high. allowed-here net (omega arith))

@@ -1,12 +1,12 @@
 pub mod Accepted
 pub mod Making
 pub mod Children
-pub mod Held
+pub mod Stored
 pub mod Places
 pub mod Splitting
 pub mod First
 pub mod Running
 pub mod Sheets
-pub mod Outcomes
+pub mod Answers
 pub mod Frame
 pub mod Agreement

@@ -23,7 +23,7 @@ use Rattle.cases.specs.Store.{patternByte}
 use Rattle.cases.proofs.Cases.{taken-decided, taken-undecided}
 use Rattle.cases.proofs.Codes.{probe-read}
 use Rattle.search.specs.Search.{simulatedDrop, envelopeDrop}
-use Rattle.search.specs.Steps.{Ready, ownUpper, Probed, Made}
+use Rattle.search.specs.Steps.{Searchable, ownUpper, Probed, CaseMade}
 
 -- The pattern that a written probe is, as Simulate reads it.
 pub probed-is : (file : File) (nets inputs : ℕ) → AcceptedFile file nets inputs → (codes given after : List ℕ)
@@ -43,9 +43,9 @@ probe-simulated {file} {nets} {inputs} {table} {codes} {given} {after} accepted 
 }
 
 -- What an evaluation is given stays ready while its buffers keep their lengths.
-pub ready-kept : {file : File} {nets inputs hops : ℕ} {sheet work sheet′ work′ : List ℕ} → Ready file nets inputs hops sheet work
-    → length sheet′ ≡ length sheet → length work′ ≡ length work → Ready file nets inputs hops sheet′ work′
-ready-kept ready s w = record {
+pub searchable-kept : {file : File} {nets inputs hops : ℕ} {sheet work sheet′ work′ : List ℕ} → Searchable file nets inputs hops sheet work
+    → length sheet′ ≡ length sheet → length work′ ≡ length work → Searchable file nets inputs hops sheet′ work′
+searchable-kept ready s w = record {
   accepted = ready .accepted;
   some-hops = ready .some-hops;
   sheet-long = s ∙ ready .sheet-long;
@@ -53,7 +53,7 @@ ready-kept ready s w = record {
 }
 
 -- What the envelope of a case is given.
-pub case-given : {file : File} {nets inputs hops : ℕ} {codes sheet work : List ℕ} → Ready file nets inputs hops sheet work → length codes ≡ 64
+pub case-given : {file : File} {nets inputs hops : ℕ} {codes sheet work : List ℕ} → Searchable file nets inputs hops sheet work → length codes ≡ 64
     → SetCodes inputs codes → Given file nets inputs codes hops sheet work
 case-given ready long coded = record {
   accepted = ready .accepted;
@@ -95,7 +95,7 @@ module _ (file : File) (inputs hops : ℕ) (table codes : List ℕ) (cap goal at
   drop-below : simulatedDrop file table (probe (setsIn inputs codes)) < 2 ^ 46
   drop-below = subst (λ n. n < 2 ^ 46) (p .is) (p .low)
 
-  pub made-below : {pattern : List ℕ} → drop < goal → Made file inputs hops table codes cap goal at store pattern goal store′ pattern
+  pub made-below : {pattern : List ℕ} → drop < goal → CaseMade file inputs hops table codes cap goal at store pattern goal store′ pattern
   made-below h = record {
     stored = case-stored;
     upper-low = upper-below;
@@ -105,7 +105,7 @@ module _ (file : File) (inputs hops : ℕ) (table codes : List ℕ) (cap goal at
   }
 
   pub made-best : {pattern pattern′ : List ℕ} → goal ≤ drop → Rewritten (λ j. getD probed (0 + j) 0) 0 inputs pattern pattern′
-      → Made file inputs hops table codes cap goal at store pattern (drop + 1) store′ pattern′
+      → CaseMade file inputs hops table codes cap goal at store pattern (drop + 1) store′ pattern′
   made-best h copied = record {
     stored = case-stored;
     upper-low = upper-below;

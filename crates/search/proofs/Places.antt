@@ -11,7 +11,7 @@ use Rattle.cases.specs.Case.{Case}
 use Rattle.cases.specs.Records.{casesIn, recordByte, SetCodes, HasCases}
 use Rattle.cases.specs.Search.{StoredCase, placed}
 use Rattle.cases.proofs.Records.{caseOf, cases-replaced, cases-appended, has-replaced, has-appended}
-use Rattle.search.proofs.Held.{CasesHeld}
+use Rattle.search.proofs.Stored.{CasesStored}
 
 -- Where the next child goes, and how many cases there are, once these children of the excitations below e are made, of a case in place
 -- k of n: the first goes to the parent's place, each other past the cases.
@@ -88,8 +88,8 @@ module _ {inputs : ℕ} (few : inputs ≤ 64) {codes : List ℕ} (long : length 
       (has-appended inputs few codes long upper next store after written count coded low has (p .0)
       (omega (arith, p .2)) (omega (arith, p .2)))
 
-  pub stored-next : (new : List Case) → Places k n e new count next → CasesHeld inputs given (placed k (map make new) xs) count store
-      → CasesHeld inputs given (placed k (map make (new ++ (child ∷ []))) xs) (max (next + 1) count) after
+  pub stored-next : (new : List Case) → Places k n e new count next → CasesStored inputs given (placed k (map make new) xs) count store
+      → CasesStored inputs given (placed k (map make (new ++ (child ∷ []))) xs) (max (next + 1) count) after
   stored-next new p now = record {
     is = stored-is new p (now .is);
     has = stored-has new p (now .long) (now .has);

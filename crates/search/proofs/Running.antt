@@ -15,7 +15,7 @@ use Rattle.cases.specs.declared.Outcome.the-variants.{Exact, Within, Spent}
 use Rattle.cases.proofs.Records.{next-split, greatest-upper}
 use Rattle.cases.proofs.Outcomes.{stop-exact, stop-within, stop-spent, goes-on}
 use Rattle.search.specs.Search.{simulatedDrop, envelopeDrop, chooseIn}
-use Rattle.search.specs.Steps.{Running, PastKept, Next, CaseSplit, Ran, bestIn, stateIn}
+use Rattle.search.specs.Steps.{Running, PastKept, CaseToSplit, CaseSplit, Ran, bestIn, stateIn}
 use Rattle.search.specs.declared.Ended.{Ended}
 
 -- What is kept past some cases is kept past more, and through two steps where it is in each.
@@ -41,9 +41,9 @@ pub record Reached (file : File) (inputs hops : ℕ) (table : List ℕ) (ratio b
   pub few : n ≤ 1 + 3 * splits
 
 -- The search begins with one case and no split.
-pub begun : {file : File} {inputs hops : ℕ} {table : List ℕ} {ratio budget goal : ℕ} {store pattern : List ℕ}
+pub reached-first : {file : File} {inputs hops : ℕ} {table : List ℕ} {ratio budget goal : ℕ} {store pattern : List ℕ}
     → Running inputs 1 goal store pattern → Reached file inputs hops table ratio budget goal store pattern 1 goal 0 store pattern
-begun {budget = budget} running =
+reached-first {budget = budget} running =
     let e : budget - 0 ≡ budget = omega arith in
     record {
       rest = rw e refl;
@@ -54,10 +54,10 @@ begun {budget = budget} running =
     }
 
 -- The children of a split have room in the store.
-pub room : {file : File} {inputs hops : ℕ} {table : List ℕ} {ratio budget goal : ℕ} {store pattern : List ℕ} {n best splits : ℕ} {store′ pattern′ : List ℕ}
+pub split-room : {file : File} {inputs hops : ℕ} {table : List ℕ} {ratio budget goal : ℕ} {store pattern : List ℕ} {n best splits : ℕ} {store′ pattern′ : List ℕ}
     → Reached file inputs hops table ratio budget goal store pattern n best splits store′ pattern′ → (splits ≡ budget → ⊥) → budget ≤ 10000
     → 72 * (1 + 3 * budget) ≤ length store → (72 * (n + 3) ≤ length store′) × (n + 3 ≤ 30001)
-room reached left few long =
+split-room reached left few long =
     (omega (arith, reached .afforded, reached .few, reached .past .store-long), omega (arith, reached .afforded, reached .few))
 
 -- The case that the scan of the store finds.
@@ -66,8 +66,8 @@ module _ {inputs n goal : ℕ} {store pattern : List ℕ} (running : Running inp
   pub upper-low : (upper : ℕ) → upper ≡ upperIn store k → upper < 2 ^ 46
   upper-low upper is = rw is (running .cases .upper-low k inside)
 
-  pub next-case : (upper : ℕ) → k ≡ firstGreatest n (upperIn store) → upper ≡ upperIn store k → Next inputs n store k upper
-  next-case upper first is = record {
+  pub case-to-split : (upper : ℕ) → k ≡ firstGreatest n (upperIn store) → upper ≡ upperIn store k → CaseToSplit inputs n store k upper
+  case-to-split upper first is = record {
     place = first ∙ sym (next-split inputs store n);
     inside = inside;
     greatest = is ∙ ap (upperIn store) first ∙ sym (greatest-upper inputs store n (running .some));
@@ -81,8 +81,8 @@ ratio-low ratio lower r l = let m : ratio * lower ≤ 10000 * lower = mul-le-mul
 
 module _ {file : File} {inputs hops : ℕ} {table : List ℕ} {ratio budget goal : ℕ} {store pattern : List ℕ} {n best splits : ℕ}
     {store′ pattern′ : List ℕ} (reached : Reached file inputs hops table ratio budget goal store pattern n best splits store′ pattern′)
-    {k upper : ℕ} (next : Next inputs n store′ k upper) where
-  abbrev pub Ends : Outcome → Type 0
+    {k upper : ℕ} (next : CaseToSplit inputs n store′ k upper) where
+  abbrev Ends : Outcome → Type 0
   Ends outcome =
       Ran file inputs hops table ratio budget (stateIn inputs 1 goal store pattern) store pattern
       (record { outcome = outcome; upper = upper; lower = best - 1; splits = splits; cases = n }) store′ pattern′

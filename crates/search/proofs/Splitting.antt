@@ -12,6 +12,7 @@ use Rattle.laws.proofs.Below.{first-greatest-same}
 use Rattle.laws.proofs.Turn.{list-at}
 use Rattle.excitation.specs.Excitation.{excitationOf}
 use Rattle.excitation.specs.UncertaintySet.{member, empty, code, decode, single, setsIn}
+use Rattle.excitation.proofs.Codes.{set-at, sets-long}
 use Rattle.block.specs.Accepted.{AcceptedFile}
 use Rattle.block.specs.Block.{inputCount, coneSize}
 use Rattle.block.specs.Record.{File}
@@ -19,22 +20,22 @@ use Rattle.cases.specs.Case.{Case, membersBelow, childrenBelow}
 use Rattle.cases.specs.Choice.{coneSizes, rankOf, rank, chosenInput}
 use Rattle.cases.specs.Records.{casesIn, HasCase, SetCodes}
 use Rattle.cases.specs.Search.{setsAt, greatestUpper, nextSplit, placed, bestOf, madeUnder, nextChildren, split}
-use Rattle.cases.proofs.Codes.{set-at, sets-long, probe-read}
+use Rattle.cases.proofs.Codes.{probe-read}
 use Rattle.cases.proofs.Records.{caseOf, sets-copied, sets-at}
 use Rattle.search.specs.Search.{simulatedDrop, envelopeDrop, chooseIn}
-use Rattle.search.specs.Steps.{Made, ChildMade, Running, Cones, Next, CaseSplit, ownUpper, bestIn, stateIn, childCodes}
+use Rattle.search.specs.Steps.{CaseMade, ChildMade, Running, Cones, CaseToSplit, CaseSplit, ownUpper, bestIn, stateIn, childCodes}
 use Rattle.search.specs.declared.Step.{Step}
 use Rattle.search.proofs.Children.{child-coded, child-sets, children-more, children-same}
-use Rattle.search.proofs.Held.{CasesHeld, BestHeld, best-more, best-next}
+use Rattle.search.proofs.Stored.{CasesStored, BestStored, best-more, best-next}
 use Rattle.search.proofs.Places.{Places, places-more, places-few, places-next, places-skip, places-add, stored-next}
 
 -- What a split has done once the children of the excitations below e are made.
 pub record Splitting (file : File) (inputs hops : ℕ) (table parent : List ℕ) (input k cap n goal : ℕ) (store pattern : List ℕ)
     (e count next goal′ : ℕ) (store′ pattern′ : List ℕ) : Type 0 where
-  pub stored : CasesHeld inputs store
+  pub stored : CasesStored inputs store
       (placed k (map (madeUnder (simulatedDrop file table) (envelopeDrop file hops table) cap) (childrenBelow e input (setsIn inputs parent))) (casesIn inputs store n))
       count store′
-  pub best : BestHeld inputs pattern
+  pub best : BestStored inputs pattern
       (bestOf (simulatedDrop file table) (bestIn inputs goal pattern) (childrenBelow e input (setsIn inputs parent))) goal′ pattern′
   pub places : Places k n e (childrenBelow e input (setsIn inputs parent)) count next
 
@@ -90,7 +91,7 @@ module _ {file : File} {inputs hops : ℕ} {table parent : List ℕ} {input k ca
     made-is = ap (madeUnder (simulatedDrop file table) (envelopeDrop file hops table) cap) (child-sets inputs few parent long input chosen e)
 
     added : {goal″ : ℕ} {store″ pattern″ : List ℕ} → member (excitationOf e) (decode (getD parent input 0)) ≡ true
-        → Made file inputs hops table (childCodes parent input e) cap goal′ next store′ pattern′ goal″ store″ pattern″
+        → CaseMade file inputs hops table (childCodes parent input e) cap goal′ next store′ pattern′ goal″ store″ pattern″
         → Splitting file inputs hops table parent input k cap n goal store pattern (e + 1) (max (next + 1) count) (max (next + 1) count) goal″ store″ pattern″
     added h made =
         let simulated = simulatedDrop file table in
@@ -134,7 +135,7 @@ chosen-same {file} cones case accepted are long =
 -- A split, once the children of all four excitations are made.
 pub case-split : (cones : List ℕ) {file : File} {nets inputs hops : ℕ} {table parent given : List ℕ} {input k cap n goal : ℕ} {store pattern : List ℕ}
     {e count next goal′ : ℕ} {store′ pattern′ : List ℕ} → AcceptedFile file nets inputs → Running inputs n goal store pattern
-    → Next inputs n store k cap → Cones file inputs cones → Rewritten (λ j. getD store (72 * k + j) 0) 0 64 given parent
+    → CaseToSplit inputs n store k cap → Cones file inputs cones → Rewritten (λ j. getD store (72 * k + j) 0) 0 64 given parent
     → input ≡ chosenInput cones (setsIn inputs parent) → e ≡ 4
     → Splitting file inputs hops table parent input k cap n goal store pattern e count next goal′ store′ pattern′
     → CaseSplit file inputs hops table n goal store pattern count goal′ store′ pattern′

@@ -1,4 +1,4 @@
--- Search (document 01, "Search").
+-- Search (document 01, "Search" and "Refusals in checking order"): its checks, its answer and its buffers.
 use Prim.Native.Nat.{ℕ}
 use mathlib.Core.List.{List, [], _∷_, _++_}
 use mathlib.Core.Path.{_≡_}
@@ -17,7 +17,7 @@ use Rattle.evaluation.specs.Evaluation.{simulatedSheet, envelopeSheet}
 use Rattle.evaluation.specs.Operation.{bufferAfter, WorkAfter}
 use Rattle.cases.specs.Case.{Case}
 use Rattle.cases.specs.Choice.{coneSizes, chosenInput}
-use Rattle.cases.specs.Search.{Found, StoredCase, greatestUpper, search, casesSheet}
+use Rattle.cases.specs.Search.{SearchEnd, StoredCase, greatestUpper, search, casesSheet}
 use Rattle.cases.specs.Store.{storeWith, patternWith}
 use Rattle.cases.specs.declared.Outcome.{Outcome}
 use Rattle.cases.specs.declared.Outcome.the-variants as outcome
@@ -35,7 +35,7 @@ abbrev pub chooseIn : File → Case → ℕ
 chooseIn file = chosenInput (coneSizes file)
 
 -- The search of a block, with its hop limit, table, ratio and budget.
-unfoldable pub searchOf : File → ℕ → List ℕ → ℕ → ℕ → Found
+unfoldable pub searchOf : File → ℕ → List ℕ → ℕ → ℕ → SearchEnd
 searchOf file hops table ratio budget =
     search (simulatedDrop file table) (envelopeDrop file hops table) (chooseIn file) ratio budget (frame file)
 
@@ -61,20 +61,20 @@ searchVerdict file hops table ratio budget sheet pattern work store =
     ++ bufferChecks (netCount file) budget (length sheet) (length pattern) (length work) (length store)))
 
 -- The answer: outcome, U, L, splits (how many cases it split), cases (records in the store at the end); or the refusal.
-unfoldable pub foundAnswer : Found → SearchAnswer
+unfoldable pub foundAnswer : SearchEnd → SearchAnswer
 foundAnswer found =
     let state = found .state in
     answer.Found (found .outcome) (greatestUpper (state .cases)) (state .best .lower) (found .splits) (length (state .cases))
 
-abbrev pub answerAfter : Verdict → Found → SearchAnswer
-answerAfter verdict-is.Accepted found = foundAnswer found
-answerAfter (verdict-is.Refused r) found = answer.Refused r
+abbrev pub searchAnswerAfter : Verdict → SearchEnd → SearchAnswer
+searchAnswerAfter verdict-is.Accepted found = foundAnswer found
+searchAnswerAfter (verdict-is.Refused r) found = answer.Refused r
 
 -- Search takes file, hop limit, table, ratio, budget, sheet, pattern, work buffer and case store. What it promises: its answer, and each
 -- buffer as it leaves it.
 pub record Searched (file : File) (hops : ℕ) (table : List ℕ) (ratio budget : ℕ) (sheet pattern work store : List ℕ)
     (answer : SearchAnswer) (sheet′ pattern′ work′ store′ : List ℕ) : Type 0 where
-  pub answered : answer ≡ answerAfter (searchVerdict file hops table ratio budget sheet pattern work store) (searchOf file hops table ratio budget)
+  pub answered : answer ≡ searchAnswerAfter (searchVerdict file hops table ratio budget sheet pattern work store) (searchOf file hops table ratio budget)
   pub sheet-written : sheet′ ≡ bufferAfter (searchVerdict file hops table ratio budget sheet pattern work store)
       (sheetWords (sheetOver file hops (searchOf file hops table ratio budget .state .cases))) sheet
   pub pattern-written : pattern′ ≡ bufferAfter (searchVerdict file hops table ratio budget sheet pattern work store)

@@ -1,4 +1,5 @@
--- What the functions of the search ask and promise, step by step: a case made, a case split, the whole run, the sheet.
+-- What the functions of the search ask and promise (for document 01, "Search"), step by step: a case made, a case split, the whole run,
+-- the sheet.
 use Prim.Native.Nat.{ℕ, _+_, _*_, _-_, _≤_, _<_, _^_, min, max}
 use mathlib.Core.Bool.{true, false}
 use mathlib.Core.List.{List}
@@ -8,13 +9,13 @@ use Rattle.laws.specs.Rewritten.{Rewritten}
 use Rattle.excitation.specs.Excitation.{excitationOf, patternOf}
 use Rattle.excitation.specs.UncertaintySet.{member, code, decode, single, setsIn}
 use Rattle.block.specs.Accepted.{AcceptedFile}
-use Rattle.block.specs.Block.{coneSize}
+use Rattle.block.specs.Block.{frame, coneSize}
 use Rattle.block.specs.Record.{File}
 use Rattle.current.specs.Current.{sheetWords}
 use Rattle.evaluation.specs.Evaluation.{HasRows}
 use Rattle.cases.specs.Case.{Case, probe, takenOf}
 use Rattle.cases.specs.Records.{casesIn, HasCases, recordByte}
-use Rattle.cases.specs.Search.{Best, State, Found, greatestUpper, nextSplit, split, searchFrom}
+use Rattle.cases.specs.Search.{Best, State, SearchEnd, greatestUpper, firstState, nextSplit, split, searchFrom}
 use Rattle.cases.specs.Store.{patternByte, storeWith, patternWith}
 use Rattle.cases.specs.declared.Outcome.{Outcome}
 use Rattle.search.specs.Search.{simulatedDrop, envelopeDrop, chooseIn, searchOf, sheetOver, foundAnswer}
@@ -23,7 +24,7 @@ use Rattle.search.specs.declared.SearchAnswer.{SearchAnswer}
 use Rattle.search.specs.declared.Step.{Step}
 
 -- What an evaluation in a search is given beside the case: an accepted file, a hop limit, a sheet and a work buffer.
-pub record Ready (file : File) (nets inputs hops : ℕ) (sheet work : List ℕ) : Type 0 where
+pub record Searchable (file : File) (nets inputs hops : ℕ) (sheet work : List ℕ) : Type 0 where
   pub accepted : AcceptedFile file nets inputs
   pub some-hops : 1 ≤ hops
   pub sheet-long : length sheet ≡ 8192
@@ -41,7 +42,7 @@ pub record Probed (file : File) (inputs : ℕ) (table codes given : List ℕ) (d
 
 -- A case made: its record, and the best probe. A probe is the best so far where its drop reaches the goal, which is 0 before the first
 -- case and L + 1 afterwards.
-pub record Made (file : File) (inputs hops : ℕ) (table codes : List ℕ) (cap goal at : ℕ) (store pattern : List ℕ)
+pub record CaseMade (file : File) (inputs hops : ℕ) (table codes : List ℕ) (cap goal at : ℕ) (store pattern : List ℕ)
     (goal′ : ℕ) (store′ pattern′ : List ℕ) : Type 0 where
   pub stored : Rewritten (recordByte codes (min cap (ownUpper file hops table (setsIn inputs codes)))) (72 * at) 72 store store′
   pub upper-low : ownUpper file hops table (setsIn inputs codes) < 2 ^ 46
@@ -73,6 +74,12 @@ pub record PastKept (inputs n : ℕ) (store pattern store′ pattern′ : List �
   pub pattern-long : length pattern′ ≡ length pattern
   pub pattern-past : (j : ℕ) → inputs ≤ j → getD pattern′ j 0 ≡ getD pattern j 0
 
+-- The first case made, the whole frame: the state of the search, and its buffers.
+pub record FirstMade (file : File) (inputs hops : ℕ) (table store pattern : List ℕ) (goal : ℕ) (store′ pattern′ : List ℕ) : Type 0 where
+  pub state : stateIn inputs 1 goal store′ pattern′ ≡ firstState (simulatedDrop file table) (envelopeDrop file hops table) (frame file)
+  pub running : Running inputs 1 goal store′ pattern′
+  pub past : PastKept inputs 1 store pattern store′ pattern′
+
 -- The sets of a child: those of its parent, but for the input that is split, which has one excitation.
 abbrev pub childCodes : List ℕ → ℕ → ℕ → List ℕ
 childCodes parent input e = set parent input (code (single (excitationOf e)))
@@ -83,7 +90,7 @@ pub record ChildMade (file : File) (inputs hops : ℕ) (table parent : List ℕ)
     (step′ : Step) (store′ pattern′ : List ℕ) : Type 0 where
   pub skipped : member (excitationOf e) (decode (getD parent input 0)) ≡ false → (step′ ≡ step) × (store′ ≡ store) × (pattern′ ≡ pattern)
   pub made : member (excitationOf e) (decode (getD parent input 0)) ≡ true
-      → Made file inputs hops table (childCodes parent input e) cap (step .goal) (step .next .0) store pattern (step′ .goal) store′ pattern′
+      → CaseMade file inputs hops table (childCodes parent input e) cap (step .goal) (step .next .0) store pattern (step′ .goal) store′ pattern′
   pub counted : member (excitationOf e) (decode (getD parent input 0)) ≡ true
       → (step′ .cases ≡ max (step .next .0 + 1) (step .cases)) × (step′ .next .0 ≡ step′ .cases)
 
@@ -92,7 +99,7 @@ abbrev pub Cones : File → ℕ → List ℕ → Type 0
 Cones file inputs cones = (net : ℕ) → net < inputs → getD cones net 0 ≡ coneSize file net
 
 -- The case to split: the first whose upper number is U, and U.
-pub record Next (inputs n : ℕ) (store : List ℕ) (k upper : ℕ) : Type 0 where
+pub record CaseToSplit (inputs n : ℕ) (store : List ℕ) (k upper : ℕ) : Type 0 where
   pub place : k ≡ nextSplit (casesIn inputs store n)
   pub inside : k < n
   pub greatest : upper ≡ greatestUpper (casesIn inputs store n)
@@ -114,7 +121,7 @@ endedAt outcome upper lower splits cases = record { outcome = outcome; upper = u
 -- A run of the search from a state on, to its end.
 pub record Ran (file : File) (inputs hops : ℕ) (table : List ℕ) (ratio budget : ℕ) (start : State) (store pattern : List ℕ)
     (ended : Ended) (store′ pattern′ : List ℕ) : Type 0 where
-  pub found : Found
+  pub found : SearchEnd
   pub is : found ≡ searchFrom (simulatedDrop file table) (envelopeDrop file hops table) (chooseIn file) ratio budget 0 start
   pub outcome : ended .outcome ≡ found .outcome
   pub upper : ended .upper ≡ greatestUpper (found .state .cases)

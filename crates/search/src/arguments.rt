@@ -10,6 +10,7 @@ use block::Refusal;
 use block::Verdict;
 use evaluation::arguments;
 
+// The verdict that refuses, with document 01's number and place.
 fn refused(number: u64, place: u64) -> Verdict
     ensures { λ r. ⌜ r ≡ Refused (refusal number place) ⌝ }
 {

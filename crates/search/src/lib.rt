@@ -3,7 +3,7 @@ ghost use mathlib.Core.Path.{_≡_};
 ghost use Prim.Native.Nat.{_+_, _*_, _≤_};
 ghost use lib.ListN.{length};
 ghost use Rattle.search.specs.Search.{Searched};
-ghost use Rattle.search.specs.Steps.{Ready, BlockSearched};
+ghost use Rattle.search.specs.Steps.{Searchable, BlockSearched};
 use block::ReadAnswer;
 use block::Refusal;
 use block::Verdict;
@@ -52,9 +52,6 @@ pub enum SearchAnswer {
     Refused(Refusal),
 }
 
-// Above every upper number: the cap of the first case, which has no parent.
-const NO_CAP: u64 = 18446744073709551615;
-
 // Searches an accepted file, with arguments that passed.
 fn search_block(
     file: &[u8],
@@ -67,28 +64,12 @@ fn search_block(
     work: &mut [u8],
     store: &mut [u8],
 ) -> SearchAnswer
-    requires { ⌜ Ready (now file) (setting .nets) (setting .inputs) (setting .hops) (now sheet) (now work) × (length (now pattern) ≡ 64) × (ratio ≤ 10000) × (budget ≤ 10000) × (72 * (1 + 3 * budget) ≤ length (now store)) ⌝ }
+    requires { ⌜ Searchable (now file) (setting .nets) (setting .inputs) (setting .hops) (now sheet) (now work) × (length (now pattern) ≡ 64) × (ratio ≤ 10000) × (budget ≤ 10000) × (72 * (1 + 3 * budget) ≤ length (now store)) ⌝ }
     ensures { λ r. ⌜ BlockSearched (now (file .entry)) (setting .hops) (now (table .entry)) ratio budget (now (pattern .entry)) (now (store .entry)) r (now (sheet .exit)) (now (pattern .exit)) (now (store .exit)) ⌝ }
 {
-    let inputs = setting.inputs;
-    let mut codes = [0u8; 64];
-    block::frame_codes(file, inputs, &mut codes);
-    let first = CaseNumber(0);
-    let goal = make::make_case(
-        file,
-        setting,
-        table,
-        &codes,
-        NO_CAP,
-        0,
-        first,
-        sheet,
-        pattern,
-        work,
-        store,
-    );
+    let goal = make::make_first(file, setting, table, sheet, pattern, work, store);
     let mut cones = [0u16; 64];
-    choice::write_cones(file, setting.nets, inputs, &mut cones);
+    choice::write_cones(file, setting.nets, setting.inputs, &mut cones);
     let ended = run::run(
         file,
         setting,

@@ -1,12 +1,12 @@
-// A case made: its probe simulated, its upper number found, and its record written.
+// A case made: its probe simulated, its upper number found, and its record written. The first case is the frame.
 ghost use mathlib.Core.Path.{_≡_};
-ghost use Prim.Native.Nat.{_<_, _^_, min};
+ghost use Prim.Native.Nat.{_≤_, _<_, _^_, min};
 ghost use lib.ListN.{length};
 ghost use Rattle.excitation.specs.UncertaintySet.{setsIn};
 ghost use Rattle.cases.specs.Case.{probe};
 ghost use Rattle.cases.specs.Records.{HasCase, SetCodes};
 ghost use Rattle.search.specs.Search.{simulatedDrop};
-ghost use Rattle.search.specs.Steps.{Ready, Probed, ownUpper, Made};
+ghost use Rattle.search.specs.Steps.{Searchable, Probed, ownUpper, CaseMade, FirstMade};
 use super::Setting;
 use cases::CaseNumber;
 use cases::sets;
@@ -22,7 +22,7 @@ fn probe_drop(
     sheet: &mut [u32],
     work: &mut [u8],
 ) -> u64
-    requires { ⌜ Ready (now file) (setting .nets) (setting .inputs) (setting .hops) (now sheet) (now work) × (length (now codes) ≡ 64) × (length (now pattern) ≡ 64) ⌝ }
+    requires { ⌜ Searchable (now file) (setting .nets) (setting .inputs) (setting .hops) (now sheet) (now work) × (length (now codes) ≡ 64) × (length (now pattern) ≡ 64) ⌝ }
     ensures { λ r. ⌜ Probed (now (file .entry)) (setting .inputs) (now (table .entry)) (now (codes .entry)) (now (pattern .entry)) r (now (pattern .exit)) ⌝ }
 {
     let inputs = setting.inputs;
@@ -49,7 +49,7 @@ fn own_upper(
     sheet: &mut [u32],
     work: &mut [u8],
 ) -> u64
-    requires { ⌜ Ready (now file) (setting .nets) (setting .inputs) (setting .hops) (now sheet) (now work) × (length (now codes) ≡ 64) × SetCodes (setting .inputs) (now codes) × (drop ≡ simulatedDrop (now file) (now table) (probe (setsIn (setting .inputs) (now codes)))) × (drop < 2 ^ 46) ⌝ }
+    requires { ⌜ Searchable (now file) (setting .nets) (setting .inputs) (setting .hops) (now sheet) (now work) × (length (now codes) ≡ 64) × SetCodes (setting .inputs) (now codes) × (drop ≡ simulatedDrop (now file) (now table) (probe (setsIn (setting .inputs) (now codes)))) × (drop < 2 ^ 46) ⌝ }
     ensures { λ r. ⌜ (r ≡ ownUpper (now (file .entry)) (setting .hops) (now (table .entry)) (setsIn (setting .inputs) (now (codes .entry)))) × (r < 2 ^ 46) ⌝ }
 {
     let inputs = setting.inputs;
@@ -69,6 +69,7 @@ fn own_upper(
     currents.drop
 }
 
+// The lesser of two numbers.
 fn lesser(a: u64, b: u64) -> u64
     ensures { λ r. ⌜ r ≡ min a b ⌝ }
 {
@@ -90,8 +91,8 @@ pub fn make_case(
     work: &mut [u8],
     store: &mut [u8],
 ) -> u64
-    requires { ⌜ Ready (now file) (setting .nets) (setting .inputs) (setting .hops) (now sheet) (now work) × (length (now codes) ≡ 64) × SetCodes (setting .inputs) (now codes) × (length (now pattern) ≡ 64) × HasCase (now store) (at .0) ⌝ }
-    ensures { λ r. ⌜ Made (now (file .entry)) (setting .inputs) (setting .hops) (now (table .entry)) (now (codes .entry)) cap goal (at .0) (now (store .entry)) (now (pattern .entry)) r (now (store .exit)) (now (pattern .exit)) ⌝ }
+    requires { ⌜ Searchable (now file) (setting .nets) (setting .inputs) (setting .hops) (now sheet) (now work) × (length (now codes) ≡ 64) × SetCodes (setting .inputs) (now codes) × (length (now pattern) ≡ 64) × HasCase (now store) (at .0) ⌝ }
+    ensures { λ r. ⌜ CaseMade (now (file .entry)) (setting .inputs) (setting .hops) (now (table .entry)) (now (codes .entry)) cap goal (at .0) (now (store .entry)) (now (pattern .entry)) r (now (store .exit)) (now (pattern .exit)) ⌝ }
 {
     let mut probe = [0u8; 64];
     let drop = probe_drop(file, setting, table, codes, &mut probe, sheet, work);
@@ -102,4 +103,37 @@ pub fn make_case(
     }
     store::copy(&probe, 0, pattern, 0, setting.inputs);
     drop + 1
+}
+
+// Above every upper number: the cap of the first case, which has no parent.
+const NO_CAP: u64 = 18446744073709551615;
+
+// Makes the first case, the whole frame. Returns the drop that the next probe has to reach.
+pub fn make_first(
+    file: &[u8],
+    setting: Setting,
+    table: &[u16],
+    sheet: &mut [u32],
+    pattern: &mut [u8],
+    work: &mut [u8],
+    store: &mut [u8],
+) -> u64
+    requires { ⌜ Searchable (now file) (setting .nets) (setting .inputs) (setting .hops) (now sheet) (now work) × (length (now pattern) ≡ 64) × (72 ≤ length (now store)) ⌝ }
+    ensures { λ r. ⌜ FirstMade (now (file .entry)) (setting .inputs) (setting .hops) (now (table .entry)) (now (store .entry)) (now (pattern .entry)) r (now (store .exit)) (now (pattern .exit)) ⌝ }
+{
+    let mut codes = [0u8; 64];
+    block::frame_codes(file, setting.inputs, &mut codes);
+    make_case(
+        file,
+        setting,
+        table,
+        &codes,
+        NO_CAP,
+        0,
+        CaseNumber(0),
+        sheet,
+        pattern,
+        work,
+        store,
+    )
 }

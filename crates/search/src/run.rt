@@ -2,13 +2,14 @@
 ghost use mathlib.Core.Path.{_≡_};
 ghost use Prim.Native.Nat.{_+_, _*_, _≤_, _<_};
 ghost use lib.ListN.{length};
-ghost use Rattle.search.specs.Steps.{Ready, Running, Cones, stateIn, endedAt, Ran};
+ghost use Rattle.search.specs.Steps.{Searchable, Running, Cones, stateIn, endedAt, Ran};
 use super::Ended;
 use super::Setting;
 use super::split;
 use cases::Outcome;
 use cases::store;
 
+// How a search ended.
 fn ended(outcome: Outcome, upper: u64, lower: u64, splits: u64, cases: usize) -> Ended
     ensures { λ r. ⌜ r ≡ endedAt outcome upper lower splits cases ⌝ }
 {
@@ -35,7 +36,7 @@ pub fn run(
     work: &mut [u8],
     store: &mut [u8],
 ) -> Ended
-    requires { ⌜ Ready (now file) (setting .nets) (setting .inputs) (setting .hops) (now sheet) (now work) × Running (setting .inputs) 1 goal (now store) (now pattern) × Cones (now file) (setting .inputs) (now cones) × (length (now cones) ≡ 64) × (ratio ≤ 10000) × (budget ≤ 10000) × (72 * (1 + 3 * budget) ≤ length (now store)) ⌝ }
+    requires { ⌜ Searchable (now file) (setting .nets) (setting .inputs) (setting .hops) (now sheet) (now work) × Running (setting .inputs) 1 goal (now store) (now pattern) × Cones (now file) (setting .inputs) (now cones) × (length (now cones) ≡ 64) × (ratio ≤ 10000) × (budget ≤ 10000) × (72 * (1 + 3 * budget) ≤ length (now store)) ⌝ }
     ensures { λ r. ⌜ Ran (now (file .entry)) (setting .inputs) (setting .hops) (now (table .entry)) ratio budget (stateIn (setting .inputs) 1 goal (now (store .entry)) (now (pattern .entry))) (now (store .entry)) (now (pattern .entry)) r (now (store .exit)) (now (pattern .exit)) ⌝ }
 {
     let mut cases: usize = 1;

@@ -8,12 +8,13 @@ ghost use Rattle.cases.specs.Case.{takenOf};
 ghost use Rattle.cases.specs.Records.{casesIn, caseIn, HasCases, HasCase, SetCodes};
 ghost use Rattle.evaluation.specs.Evaluation.{simulatedSheet, envelopeSheet};
 ghost use Rattle.search.specs.Search.{sheetOver};
-ghost use Rattle.search.specs.Steps.{Ready};
+ghost use Rattle.search.specs.Steps.{Searchable};
 use super::Setting;
 use cases::CaseNumber;
 use cases::sets;
 use cases::store;
 
+// The greater of two words.
 fn greater(a: u32, b: u32) -> u32
     ensures { λ r. ⌜ r ≡ max a b ⌝ }
 {
@@ -42,7 +43,7 @@ fn draw_case(
     sheet: &mut [u32],
     work: &mut [u8],
 )
-    requires { ⌜ Ready (now file) (setting .nets) (setting .inputs) (setting .hops) (now sheet) (now work) × HasCase (now store) (k .0) × SetCodes (setting .inputs) (drop (72 * k .0) (now store)) ⌝ }
+    requires { ⌜ Searchable (now file) (setting .nets) (setting .inputs) (setting .hops) (now sheet) (now work) × HasCase (now store) (k .0) × SetCodes (setting .inputs) (drop (72 * k .0) (now store)) ⌝ }
     ensures { λ _. ⌜ now (sheet .exit) ≡ sheetWords (takenOf (simulatedSheet (now (file .entry))) (envelopeSheet (setting .hops) (now (file .entry))) (caseIn (setting .inputs) (now (store .entry)) (k .0) .sets)) ⌝ }
 {
     let inputs = setting.inputs;
@@ -76,7 +77,7 @@ pub fn draw_cases(
     sheet: &mut [u32],
     work: &mut [u8],
 )
-    requires { ⌜ Ready (now file) (setting .nets) (setting .inputs) (setting .hops) (now sheet) (now work) × HasCases (setting .inputs) (now store) n ⌝ }
+    requires { ⌜ Searchable (now file) (setting .nets) (setting .inputs) (setting .hops) (now sheet) (now work) × HasCases (setting .inputs) (now store) n ⌝ }
     ensures { λ _. ⌜ now (sheet .exit) ≡ sheetWords (sheetOver (now (file .entry)) (setting .hops) (casesIn (setting .inputs) (now (store .entry)) n)) ⌝ }
 {
     let mut one = [0u32; 8192];

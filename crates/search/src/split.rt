@@ -3,7 +3,7 @@ ghost use mathlib.Core.Path.{_≡_};
 ghost use Prim.Native.Nat.{_+_, _*_, _≤_, _<_};
 ghost use lib.ListN.{length};
 ghost use Rattle.cases.specs.Records.{HasCase, SetCodes};
-ghost use Rattle.search.specs.Steps.{Ready, ChildMade, Running, Cones, Next, CaseSplit};
+ghost use Rattle.search.specs.Steps.{Searchable, childCodes, ChildMade, Running, Cones, CaseToSplit, CaseSplit};
 use super::Setting;
 use super::Step;
 use super::make;
@@ -12,6 +12,18 @@ use cases::CaseNumber;
 use cases::choice;
 use cases::store;
 use excitation::Set;
+
+// The codes of a child's sets: those of its parent, but for the input that is split, whose set has the excitation of byte e alone.
+fn child_codes(parent: &[u8], input: Net, e: u8) -> [u8; 64]
+    requires { ⌜ (length (now parent) ≡ 64) × (input .0 < 64) ⌝ }
+    ensures { λ r. ⌜ r ≡ childCodes (now (parent .entry)) (input .0) e ⌝ }
+{
+    let net = input.0;
+    let mut codes = [0u8; 64];
+    store::copy(parent, 0, &mut codes, 0, 64);
+    codes[net] = excitation::single(excitation::excitation_of(e)).code;
+    codes
+}
 
 // Makes the child whose input has the excitation of byte e, where the parent's set allows it.
 fn make_child(
@@ -28,18 +40,15 @@ fn make_child(
     work: &mut [u8],
     store: &mut [u8],
 ) -> Step
-    requires { ⌜ Ready (now file) (setting .nets) (setting .inputs) (setting .hops) (now sheet) (now work) × (length (now parent) ≡ 64) × SetCodes (setting .inputs) (now parent) × (input .0 < setting .inputs) × (e < 4) × (length (now pattern) ≡ 64) × HasCase (now store) (step .next .0) × (step .cases ≤ 30001) ⌝ }
+    requires { ⌜ Searchable (now file) (setting .nets) (setting .inputs) (setting .hops) (now sheet) (now work) × (length (now parent) ≡ 64) × SetCodes (setting .inputs) (now parent) × (input .0 < setting .inputs) × (e < 4) × (length (now pattern) ≡ 64) × HasCase (now store) (step .next .0) × (step .cases ≤ 30001) ⌝ }
     ensures { λ r. ⌜ ChildMade (now (file .entry)) (setting .inputs) (setting .hops) (now (table .entry)) (now (parent .entry)) (input .0) e cap step (now (store .entry)) (now (pattern .entry)) r (now (store .exit)) (now (pattern .exit)) ⌝ }
 {
-    let excitation = excitation::excitation_of(e);
     let net = input.0;
     let set = Set { code: parent[net] };
-    if !set.contains(excitation) {
+    if !set.contains(excitation::excitation_of(e)) {
         return step;
     }
-    let mut codes = [0u8; 64];
-    store::copy(parent, 0, &mut codes, 0, 64);
-    codes[net] = excitation::single(excitation).code;
+    let codes = child_codes(parent, input, e);
     let next = step.next;
     let goal = make::make_case(
         file,
@@ -77,18 +86,20 @@ pub fn split(
     work: &mut [u8],
     store: &mut [u8],
 ) -> Step
-    requires { ⌜ Ready (now file) (setting .nets) (setting .inputs) (setting .hops) (now sheet) (now work) × Running (setting .inputs) n goal (now store) (now pattern) × Next (setting .inputs) n (now store) (k .0) cap × Cones (now file) (setting .inputs) (now cones) × (length (now cones) ≡ 64) × (72 * (n + 3) ≤ length (now store)) × (n + 3 ≤ 30001) ⌝ }
+    requires { ⌜ Searchable (now file) (setting .nets) (setting .inputs) (setting .hops) (now sheet) (now work) × Running (setting .inputs) n goal (now store) (now pattern) × CaseToSplit (setting .inputs) n (now store) (k .0) cap × Cones (now file) (setting .inputs) (now cones) × (length (now cones) ≡ 64) × (72 * (n + 3) ≤ length (now store)) × (n + 3 ≤ 30001) ⌝ }
     ensures { λ r. ⌜ CaseSplit (now (file .entry)) (setting .inputs) (setting .hops) (now (table .entry)) n goal (now (store .entry)) (now (pattern .entry)) (r .cases) (r .goal) (now (store .exit)) (now (pattern .exit)) ⌝ }
 {
     let mut parent = [0u8; 64];
     store::read_sets(store, k, &mut parent);
     let input = choice::choose(&parent, setting.inputs, cones);
-    let mut cases = n;
-    let mut next = k.0;
-    let mut best = goal;
+    let mut step = Step {
+        cases: n,
+        next: k,
+        goal,
+    };
     let mut e: u8 = 0;
     while e < 4 {
-        let step = make_child(
+        step = make_child(
             file,
             setting,
             table,
@@ -96,24 +107,13 @@ pub fn split(
             input,
             e,
             cap,
-            Step {
-                cases,
-                next: CaseNumber(next),
-                goal: best,
-            },
+            step,
             sheet,
             pattern,
             work,
             store,
         );
-        cases = step.cases;
-        next = step.next.0;
-        best = step.goal;
         e += 1;
     }
-    Step {
-        cases,
-        next: CaseNumber(next),
-        goal: best,
-    }
+    step
 }

@@ -1,3 +1,3 @@
 pub mod Patterns
 pub mod Simulation
-pub mod Outcomes
+pub mod Answers

@@ -49,7 +49,15 @@ unfolding bytesFrom
 bytes-all file pattern inputs net h i =
     all-passed ∙ ap verdict (let e : 0 ≡ inputs - net = omega arith in ap (bytesFrom file pattern net) e) ∙ i
 
--- An accepted pattern is a choice of the frame.
+-- The bytes that are allowed, one for each input, pass, and no others do: an accepted pattern is a choice of the frame.
+
+pub bytes-pass : (file : File) (pattern : List ℕ) (net n : ℕ) → ((k : ℕ) → net ≤ k → k < net + n → byteAllowed file k (getD pattern k 0) ≡ true)
+    → verdict (bytesFrom file pattern net n) ≡ verdict-is.Accepted
+unfolding bytesFrom
+bytes-pass file pattern net zero each = sym all-passed
+bytes-pass file pattern net (suc n) each =
+    sym (passes 16 net (bytesFrom file pattern (suc net) n) (each net (omega arith) (omega arith))
+    (sym (bytes-pass file pattern (suc net) n (λ k low high. each k (omega arith) (omega arith)))))
 
 each-allowed : (file : File) (pattern : List ℕ) (net n : ℕ) → verdict (bytesFrom file pattern net n) ≡ verdict-is.Accepted
     → (k : ℕ) → net ≤ k → k < net + n → byteAllowed file k (getD pattern k 0) ≡ true

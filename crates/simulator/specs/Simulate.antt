@@ -1,4 +1,4 @@
--- Simulate (document 01, "Levels and simulation").
+-- Simulate (document 01, "Levels and simulation" and "Refusals in checking order"): its checks, its answer and its buffers.
 use Prim.Native.Nat.{ℕ, zero, suc, _<_, _^_}
 use mathlib.Core.Bool.{Bool, _&&_}
 use mathlib.Core.List.{List, [], _∷_, _++_}

@@ -7,7 +7,6 @@ ghost use Rattle.block.specs.Record.{HasRecord};
 ghost use Rattle.block.specs.Accepted.{AcceptedFile};
 ghost use Rattle.block.specs.Verdict.{verdict};
 ghost use Rattle.evaluation.specs.Evaluation.{HasRows};
-ghost use Rattle.excitation.specs.Excitation.{excitationOf};
 ghost use Rattle.simulator.specs.Simulate.{byteAllowed, bytesFrom, sizeChecks, PatternCodes, PatternEvaluated, Simulated};
 use block::Net;
 use block::ReadAnswer;
@@ -87,7 +86,7 @@ fn check_sizes(nets: usize, table: usize, sheet: usize, pattern: usize, work: us
 }
 
 // Checks 12, 15 and 16, in order.
-fn check_lent(
+fn check_arguments(
     file: &[u8],
     nets: usize,
     inputs: usize,
@@ -148,7 +147,7 @@ pub fn simulate(
     match block::read(file) {
         ReadAnswer::Refused(r) => CurrentsAnswer::Refused(r),
         ReadAnswer::Counts { nets, inputs } => {
-            match check_lent(
+            match check_arguments(
                 file,
                 nets as usize,
                 inputs as usize,

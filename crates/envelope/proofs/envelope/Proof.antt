@@ -3,7 +3,7 @@
 use mathlib.Core.Path.{sym, _∙_}
 use borrow.Author.Needs.{needs}
 use Rattle.block.proofs.Accepted.{accepted}
-use Rattle.envelope.proofs.Outcomes.{arguments-right, file-refused, argument-refused, call-accepted}
+use Rattle.envelope.proofs.Answers.{arguments-right, file-refused, argument-refused, call-accepted}
 use Rattle.envelope.proofs.envelope.Statement.{statement}
 use Rattle.envelope.proofs.envelope.Tie as tie
 

@@ -5,7 +5,7 @@ use borrow.Author.Needs.{needs}
 use Rattle.block.proofs.Accepted.{accepted}
 use Rattle.block.proofs.Verdicts.{both-accepted}
 use Rattle.search.proofs.Accepted.{limits-right, buffers-right}
-use Rattle.search.proofs.Outcomes.{file-refused, argument-refused, call-accepted}
+use Rattle.search.proofs.Answers.{file-refused, argument-refused, call-accepted}
 use Rattle.search.proofs.search.Statement.{statement}
 use Rattle.search.proofs.search.Tie as tie
 

@@ -6,27 +6,13 @@ use native.Mathlib.Omega.{arith}
 use lib.ListN.{length-replicate}
 use borrow.Author.Needs.{needs}
 use Rattle.laws.proofs.Rewritten.{rewritten-first}
-use Rattle.search.proofs.Making.{ready-kept}
-use Rattle.search.proofs.First.{codes-long, frame-coded, first-state, first-running, first-kept}
-use Rattle.search.proofs.Outcomes.{block-searched}
+use Rattle.search.proofs.Making.{searchable-kept}
+use Rattle.search.proofs.Answers.{block-searched}
 use Rattle.search.proofs.search_block.Statement.{statement}
 use Rattle.search.proofs.search_block.Tie as tie
 
-slice-aggregate-frame-codes : tie.Need-slice-aggregate-frame-codes
-slice-aggregate-frame-codes c = search needs
-
-frame-codes-requires : tie.Need-frame-codes-requires
-frame-codes-requires c κs = search needs
-
-slice-aggregate-make-case : tie.Need-slice-aggregate-make-case
-slice-aggregate-make-case c = search needs
-
-make-case-requires : tie.Need-make-case-requires
-make-case-requires c κs =
-    let coded = c .before .before .before .before .before .before in
-    let s = coded .before .before .before .before .before .before .before .before in
-    let file = s .pre .0 .accepted in
-    (s .pre .0, codes-long file (coded .frame-codes .ensures), frame-coded file (coded .frame-codes .ensures), s .pre .1, record { whole = omega (arith, s .pre .4); numbered = omega arith })
+make-first-requires : tie.Need-make-first-requires
+make-first-requires c κs = search needs
 
 slice-aggregate-write-cones : tie.Need-slice-aggregate-write-cones
 slice-aggregate-write-cones c = search needs
@@ -41,75 +27,65 @@ run-requires : tie.Need-run-requires
 run-requires c κs =
     let counted = c .before .before .before .before .before .before in
     let made = counted .before .before .before .before .before .before .before .before .before .before in
-    let coded = made .before .before .before .before .before .before .before in
-    let s = coded .before .before .before .before .before .before .before .before in
-    let kept = made .make-case .kept .1 .1 .1 .1 .1 .1 .1 in (
-      ready-kept (s .pre .0) (kept .0) (kept .1 .1 .0),
-      first-running (s .pre .0 .accepted) (coded .frame-codes .ensures) (made .make-case .ensures) (omega arith) (s .pre .1) (omega (arith, s .pre .4)),
+    let s = made .before .before .before .before .before .before .before .before .before .before .before in
+    let kept = made .make-first .kept .1 .1 .1 in (
+      searchable-kept (s .pre .0) (kept .0) (kept .1 .1 .0),
+      made .make-first .ensures .running,
       rewritten-first _ _ _ _ (counted .write-cones .ensures),
       counted .write-cones .ensures .long ∙ length-replicate {A = ℕ} 64 0,
       s .pre .2,
       s .pre .3,
-      omega (arith, s .pre .4, made .make-case .ensures .stored .long),
+      omega (arith, s .pre .4, made .make-first .ensures .past .store-long),
     )
 
 draw-cases-requires : tie.Need-draw-cases-requires
 draw-cases-requires c κs =
     let ran = c .before .before .before .before .before .before .before .before .before .before .before in
     let made = ran .before .before .before .before .before .before .before .before .before .before .before .before .before .before .before .before .before in
-    let s = made .before .before .before .before .before .before .before .before .before .before .before .before .before .before .before in
-    let kept = made .make-case .kept .1 .1 .1 .1 .1 .1 .1 in
+    let s = made .before .before .before .before .before .before .before .before .before .before .before in
+    let kept = made .make-first .kept .1 .1 .1 in
     let then = ran .run .kept .1 .1 .1 .1 .1 .1 .1 in
-    (ready-kept (s .pre .0) (then .0 ∙ kept .0) (then .1 .1 .0 ∙ kept .1 .1 .0), ran .run .ensures .running .cases)
+    (searchable-kept (s .pre .0) (then .0 ∙ kept .0) (then .1 .1 .0 ∙ kept .1 .1 .0), ran .run .ensures .running .cases)
 
 same-length : tie.Need-same-length
 same-length c =
     let drawn = c .before .before .before .before in
     let ran = drawn .before .before .before .before .before .before .before .before .before .before .before .before in
     let made = ran .before .before .before .before .before .before .before .before .before .before .before .before .before .before .before .before .before in
-    drawn .draw-cases .kept .1 .1 .1 .1 .1 .0 ∙ ran .run .kept .1 .1 .1 .1 .1 .1 .1 .0 ∙ made .make-case .kept .1 .1 .1 .1 .1 .1 .1 .0
+    drawn .draw-cases .kept .1 .1 .1 .1 .1 .0 ∙ ran .run .kept .1 .1 .1 .1 .1 .1 .1 .0 ∙ made .make-first .kept .1 .1 .1 .0
 
 same-length-2 : tie.Need-same-length-2
 same-length-2 c =
     let ran = c .before .before .before .before .before .before .before .before .before .before .before .before .before .before .before .before in
     let made = ran .before .before .before .before .before .before .before .before .before .before .before .before .before .before .before .before .before in
-    ran .run .kept .1 .1 .1 .1 .1 .1 .1 .1 .0 ∙ made .make-case .kept .1 .1 .1 .1 .1 .1 .1 .1 .0
+    ran .run .kept .1 .1 .1 .1 .1 .1 .1 .1 .0 ∙ made .make-first .kept .1 .1 .1 .1 .0
 
 same-length-3 : tie.Need-same-length-3
 same-length-3 c =
     let drawn = c .before .before .before .before in
     let ran = drawn .before .before .before .before .before .before .before .before .before .before .before .before in
     let made = ran .before .before .before .before .before .before .before .before .before .before .before .before .before .before .before .before .before in
-    drawn .draw-cases .kept .1 .1 .1 .1 .1 .1 .0 ∙ ran .run .kept .1 .1 .1 .1 .1 .1 .1 .1 .1 .0 ∙ made .make-case .kept .1 .1 .1 .1 .1 .1 .1 .1 .1 .0
+    drawn .draw-cases .kept .1 .1 .1 .1 .1 .1 .0 ∙ ran .run .kept .1 .1 .1 .1 .1 .1 .1 .1 .1 .0 ∙ made .make-first .kept .1 .1 .1 .1 .1 .0
 
 same-length-4 : tie.Need-same-length-4
 same-length-4 c =
     let ran = c .before .before .before .before .before .before .before .before .before .before .before .before .before .before .before .before in
     let made = ran .before .before .before .before .before .before .before .before .before .before .before .before .before .before .before .before .before in
-    ran .run .kept .1 .1 .1 .1 .1 .1 .1 .1 .1 .1 .0 ∙ made .make-case .kept .1 .1 .1 .1 .1 .1 .1 .1 .1 .1 .0
+    ran .run .kept .1 .1 .1 .1 .1 .1 .1 .1 .1 .1 .0 ∙ made .make-first .kept .1 .1 .1 .1 .1 .1 .0
 
 returns : tie.Need-returns
 returns c =
     let drawn = c .before .before .before .before in
     let ran = drawn .before .before .before .before .before .before .before .before .before .before .before .before in
     let made = ran .before .before .before .before .before .before .before .before .before .before .before .before .before .before .before .before .before in
-    let coded = made .before .before .before .before .before .before .before in
-    let s = coded .before .before .before .before .before .before .before .before in
-    let file = s .pre .0 .accepted in
-    block-searched file
-    (first-state file (coded .frame-codes .ensures) (made .make-case .ensures) (omega arith))
-    (first-kept file (coded .frame-codes .ensures) (made .make-case .ensures) (omega arith))
-    (ran .run .ensures)
-    (drawn .draw-cases .ensures)
+    let s = made .before .before .before .before .before .before .before .before .before .before .before in
+    block-searched (s .pre .0 .accepted) (made .make-first .ensures) (ran .run .ensures) (drawn .draw-cases .ensures)
 
 pub search-block-spec : {M : Type 1} → statement M
 search-block-spec =
     tie.close
     (tie.spec
-    slice-aggregate-frame-codes
-    frame-codes-requires
-    slice-aggregate-make-case
-    make-case-requires
+    make-first-requires
     slice-aggregate-write-cones
     write-cones-requires
     slice-aggregate-run

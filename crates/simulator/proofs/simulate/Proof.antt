@@ -4,7 +4,7 @@ use mathlib.Core.Path.{sym, _∙_}
 use borrow.Author.Needs.{needs}
 use Rattle.block.proofs.Accepted.{accepted}
 use Rattle.block.proofs.Verdicts.{both-accepted}
-use Rattle.simulator.proofs.Outcomes.{sizes-right, file-refused, argument-refused, call-accepted}
+use Rattle.simulator.proofs.Answers.{sizes-right, file-refused, argument-refused, call-accepted}
 use Rattle.simulator.proofs.simulate.Statement.{statement}
 use Rattle.simulator.proofs.simulate.Tie as tie
 
@@ -17,8 +17,8 @@ enum-known-r c = search needs
 enum-known-nets : tie.Need-enum-known-nets
 enum-known-nets c = search needs
 
-check-lent-requires : tie.Need-check-lent-requires
-check-lent-requires c κs = accepted _ _ _ (sym (c .before .before .before .read .ensures) ∙ c .before .nets .given .1)
+check-arguments-requires : tie.Need-check-arguments-requires
+check-arguments-requires c κs = accepted _ _ _ (sym (c .before .before .before .read .ensures) ∙ c .before .nets .given .1)
 
 enum-known-r-2 : tie.Need-enum-known-r-2
 enum-known-r-2 c = search needs
@@ -30,7 +30,7 @@ evaluate-pattern-requires : tie.Need-evaluate-pattern-requires
 evaluate-pattern-requires c κs =
     let told = c .before .before in
     let file = accepted _ _ _ (sym (told .before .before .before .before .before .before .read .ensures) ∙ told .before .before .before .before .nets .given .1) in
-    let both = both-accepted _ _ (sym (told .before .before .check-lent .ensures) ∙ told .enum-told .given .1) in
+    let both = both-accepted _ _ (sym (told .before .before .check-arguments .ensures) ∙ told .enum-told .given .1) in
     let right = sizes-right _ _ _ _ _ (both .0) in
     (file, right .sheet-long, right .pattern-long, record { whole = right .work-long; numbered = file .few-nets })
 
@@ -40,7 +40,7 @@ returns c = file-refused _ _ _ _ _ _ (sym (c .before .before .before .read .ensu
 returns-2 : tie.Need-returns-2
 returns-2 c =
     let told = c .before .before .before in
-    argument-refused _ _ _ _ _ _ _ (sym (told .before .before .before .before .read .ensures) ∙ told .before .before .nets .given .1) _ (sym (told .check-lent .ensures) ∙ c .before .r2 .given .1)
+    argument-refused _ _ _ _ _ _ _ (sym (told .before .before .before .before .read .ensures) ∙ told .before .before .nets .given .1) _ (sym (told .check-arguments .ensures) ∙ c .before .r2 .given .1)
 
 same-length : tie.Need-same-length
 same-length c = search needs
@@ -51,7 +51,7 @@ same-length-2 c = search needs
 returns-3 : tie.Need-returns-3
 returns-3 c =
     let told = c .before .before .before .before .before .before .before in
-    call-accepted _ _ _ _ _ _ _ (sym (told .before .before .before .before .before .before .read .ensures) ∙ told .before .before .before .before .nets .given .1) _ _ _ (sym (told .before .before .check-lent .ensures) ∙ told .enum-told .given .1) (c .before .before .before .before .evaluate-pattern .ensures)
+    call-accepted _ _ _ _ _ _ _ (sym (told .before .before .before .before .before .before .read .ensures) ∙ told .before .before .before .before .nets .given .1) _ _ _ (sym (told .before .before .check-arguments .ensures) ∙ told .enum-told .given .1) (c .before .before .before .before .evaluate-pattern .ensures)
 
 pub simulate-spec : {M : Type 1} → statement M
 simulate-spec =
@@ -60,7 +60,7 @@ simulate-spec =
     read-requires
     enum-known-r
     enum-known-nets
-    check-lent-requires
+    check-arguments-requires
     enum-known-r-2
     enum-told
     evaluate-pattern-requires

@@ -2,7 +2,6 @@
 -- Assumes nothing.
 use borrow.Author.Needs.{needs}
 use mathlib.Core.Path.{sym, ap, _∙_}
-use borrow.Author.Needs.{needs}
 use Rattle.search.specs.Search.{searchNumbers}
 use Rattle.zimgurav.proofs.search_numbers.Statement.{statement}
 use Rattle.zimgurav.proofs.search_numbers.Tie as tie

@@ -5,12 +5,13 @@ use mathlib.Core.Logic.{⊎-elim}
 use mathlib.Core.Path.{_≡_, _∙_}
 use native.Mathlib.Omega.{arith}
 use borrow.Author.Needs.{needs}
-use Rattle.cases.proofs.Scan.{Scanned, scanned-one, scanned-greater, scanned-not, rankAt, chosen-is}
+use Rattle.laws.proofs.Greatest.{GreatestSoFar, greatest-one, greatest-replaced, greatest-kept}
+use Rattle.cases.proofs.Chosen.{rankAt, chosen-is}
 use Rattle.cases.proofs.choice.choose.Statement.{statement}
 use Rattle.cases.proofs.choice.choose.Tie as tie
 
 abbrev Inv-loop : tie.InvT-loop
-Inv-loop codes inputs cones best₀ most₀ net₀ best most net = (1 ≤ net) × (net ≤ inputs) × Scanned (rankAt codes cones) net best most
+Inv-loop codes inputs cones best₀ most₀ net₀ best most net = (1 ≤ net) × (net ≤ inputs) × GreatestSoFar (rankAt codes cones) net best most
 
 abbrev μ-loop : tie.MeasureT-loop
 μ-loop codes inputs cones best₀ most₀ net₀ best most net = inputs - net
@@ -25,7 +26,7 @@ rank-of-requires : tie.Need-rank-of-requires Inv-loop μ-loop
 rank-of-requires c κs = search needs
 
 loop-holds : tie.Need-loop-holds Inv-loop μ-loop
-loop-holds c = (omega arith, omega arith, scanned-one _ _ (c .rank-of .ensures))
+loop-holds c = (omega arith, omega arith, greatest-one _ _ (c .rank-of .ensures))
 
 shared-slice-read-rank-of-3 : tie.Need-shared-slice-read-rank-of-3 Inv-loop μ-loop
 shared-slice-read-rank-of-3 c = search needs
@@ -50,8 +51,8 @@ loop-again c = (
   omega arith,
   omega arith,
   ⊎-elim
-      (λ w. scanned-greater _ _ _ _ _ _ _ (c .before .before .before .before .before .loop .inv .2) (c .before .rank-of2 .ensures) (w .0 .taken) (w .1) (w .2))
-      (λ w. scanned-not _ _ _ _ _ _ _ (c .before .before .before .before .before .loop .inv .2) (c .before .rank-of2 .ensures) (w .0 .left) (w .1) (w .2))
+      (λ w. greatest-replaced _ _ _ _ _ _ _ (c .before .before .before .before .before .loop .inv .2) (c .before .rank-of2 .ensures) (w .0 .taken) (w .1) (w .2))
+      (λ w. greatest-kept _ _ _ _ _ _ _ (c .before .before .before .before .before .loop .inv .2) (c .before .rank-of2 .ensures) (w .0 .left) (w .1) (w .2))
       (c .if1 .came),
 )
 

@@ -3,7 +3,6 @@
 use borrow.Author.Needs.{needs}
 use mathlib.Core.Path.{refl, sym, _∙_}
 use native.Mathlib.Numerals.{add-one}
-use borrow.Author.Needs.{needs}
 use Rattle.cases.specs.Choice.{rankOf}
 use Rattle.cases.proofs.choice.rank_of.Statement.{statement}
 use Rattle.cases.proofs.choice.rank_of.Tie as tie

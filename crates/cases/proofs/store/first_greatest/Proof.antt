@@ -6,12 +6,12 @@ use mathlib.Core.Path.{_≡_}
 use native.Mathlib.Omega.{arith}
 use borrow.Author.Needs.{needs}
 use Rattle.cases.specs.Records.{upperIn}
-use Rattle.cases.proofs.Scan.{Scanned, scanned-one, scanned-greater, scanned-not}
+use Rattle.laws.proofs.Greatest.{GreatestSoFar, greatest-one, greatest-replaced, greatest-kept}
 use Rattle.cases.proofs.store.first_greatest.Statement.{statement}
 use Rattle.cases.proofs.store.first_greatest.Tie as tie
 
 abbrev Inv-loop : tie.InvT-loop
-Inv-loop store n best₀ most₀ k₀ best most k = (1 ≤ k) × (k ≤ n) × Scanned (upperIn store) k best most
+Inv-loop store n best₀ most₀ k₀ best most k = (1 ≤ k) × (k ≤ n) × GreatestSoFar (upperIn store) k best most
 
 abbrev μ-loop : tie.MeasureT-loop
 μ-loop store n best₀ most₀ k₀ best most k = n - k
@@ -20,7 +20,7 @@ upper-requires : tie.Need-upper-requires Inv-loop μ-loop
 upper-requires c κs = record { whole = omega arith; numbered = omega arith }
 
 loop-holds : tie.Need-loop-holds Inv-loop μ-loop
-loop-holds c = (omega arith, omega arith, scanned-one _ _ (c .upper .ensures))
+loop-holds c = (omega arith, omega arith, greatest-one _ _ (c .upper .ensures))
 
 upper-requires-2 : tie.Need-upper-requires-2 Inv-loop μ-loop
 upper-requires-2 c κs = record { whole = omega arith; numbered = omega arith }
@@ -36,8 +36,8 @@ loop-again c = (
   omega arith,
   omega arith,
   ⊎-elim
-      (λ w. scanned-greater _ _ _ _ _ _ _ (c .before .before .before .loop .inv .2) (c .before .upper2 .ensures) (w .0 .taken) (w .1) (w .2))
-      (λ w. scanned-not _ _ _ _ _ _ _ (c .before .before .before .loop .inv .2) (c .before .upper2 .ensures) (w .0 .left) (w .1) (w .2))
+      (λ w. greatest-replaced _ _ _ _ _ _ _ (c .before .before .before .loop .inv .2) (c .before .upper2 .ensures) (w .0 .taken) (w .1) (w .2))
+      (λ w. greatest-kept _ _ _ _ _ _ _ (c .before .before .before .loop .inv .2) (c .before .upper2 .ensures) (w .0 .left) (w .1) (w .2))
       (c .if1 .came),
 )
 

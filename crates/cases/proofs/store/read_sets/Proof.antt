@@ -1,8 +1,7 @@
 -- `cases::store::read_sets` meets its contract.
 -- Assumes nothing.
 use borrow.Author.Needs.{needs}
-use borrow.Author.Needs.{needs}
-use Rattle.cases.proofs.Written.{copied}
+use Rattle.cases.proofs.Records.{copied-at}
 use Rattle.cases.proofs.store.read_sets.Statement.{statement}
 use Rattle.cases.proofs.store.read_sets.Tie as tie
 
@@ -16,7 +15,7 @@ same-length : tie.Need-same-length
 same-length c = search needs
 
 returns : tie.Need-returns
-returns c = copied (c .before .before .before .before .before .before .before .args .store .now) _ _ _ _ _ _ (c .before .before .before .before .start .ensures) (c .before .before .copy .ensures)
+returns c = copied-at (c .before .before .before .before .before .before .before .args .store .now) _ _ _ _ _ _ (c .before .before .before .before .start .ensures) (c .before .before .copy .ensures)
 
 pub read-sets-spec : {M : Type 1} → statement M
 read-sets-spec = tie.close (tie.spec start-requires copy-requires same-length returns)

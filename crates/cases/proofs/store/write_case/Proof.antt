@@ -1,8 +1,7 @@
 -- `cases::store::write_case` meets its contract.
 -- Assumes nothing.
 use borrow.Author.Needs.{needs}
-use borrow.Author.Needs.{needs}
-use Rattle.cases.proofs.Written.{case-written}
+use Rattle.cases.proofs.Records.{case-written}
 use Rattle.cases.proofs.store.write_case.Statement.{statement}
 use Rattle.cases.proofs.store.write_case.Tie as tie
 

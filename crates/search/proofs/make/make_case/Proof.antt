@@ -2,7 +2,7 @@
 -- Assumes nothing.
 use native.Mathlib.Omega.{arith}
 use borrow.Author.Needs.{needs}
-use Rattle.search.proofs.Making.{ready-kept, made-below, made-best}
+use Rattle.search.proofs.Making.{searchable-kept, made-below, made-best}
 use Rattle.search.proofs.make.make_case.Statement.{statement}
 use Rattle.search.proofs.make.make_case.Tie as tie
 
@@ -18,7 +18,7 @@ own-upper-requires c κs =
     let s = probed .before .before .before .before .before .before .before .before .before .before .before in
     let kept = probed .probe-drop .kept .1 .1 .1 .1 .1 in
     let drop = probed .probe-drop .ensures in
-    (ready-kept (s .pre .0) (kept .0) (kept .1 .0), s .pre .1, s .pre .2, drop .is, drop .low)
+    (searchable-kept (s .pre .0) (kept .0) (kept .1 .0), s .pre .1, s .pre .2, drop .is, drop .low)
 
 lesser-requires : tie.Need-lesser-requires
 lesser-requires c κs = search needs

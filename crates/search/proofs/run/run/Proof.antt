@@ -1,14 +1,14 @@
--- `search::run::run` meets its contract.
+-- `search::run::run` meets its contract. The loop's invariant: what is left of the search is what is left of it from the first case on.
 -- Assumes nothing.
 use Prim.Native.Nat.{_-_}
 use mathlib.Core.Path.{_≡_, refl, _∙_}
 use native.Mathlib.Omega.{arith}
 use lib.ListN.{length}
-use Rattle.search.specs.Steps.{Next}
+use Rattle.search.specs.Steps.{CaseToSplit}
 use borrow.Author.Needs.{needs}
 use Rattle.cases.proofs.Records.{has-case}
-use Rattle.search.proofs.Making.{ready-kept}
-use Rattle.search.proofs.Running.{Reached, begun, ran-as, room, upper-low, next-case, ratio-low, ends-exact, ends-within, ends-spent, reached-next}
+use Rattle.search.proofs.Making.{searchable-kept}
+use Rattle.search.proofs.Running.{Reached, reached-first, ran-as, split-room, upper-low, case-to-split, ratio-low, ends-exact, ends-within, ends-spent, reached-next}
 use Rattle.search.proofs.run.run.Statement.{statement}
 use Rattle.search.proofs.run.run.Tie as tie
 
@@ -21,7 +21,7 @@ abbrev μ-loop : tie.MeasureT-loop
     budget - splits
 
 loop-holds : tie.Need-loop-holds Inv-loop μ-loop
-loop-holds c = (begun (c .before .before .before .before .before .before .before .pre .1), refl, refl)
+loop-holds c = (reached-first (c .before .before .before .before .before .before .before .pre .1), refl, refl)
 
 first-greatest-requires : tie.Need-first-greatest-requires Inv-loop μ-loop
 first-greatest-requires c κs = let r = c .before .loop .inv .0 .running in (r .cases .whole, r .some, r .cases .few)
@@ -48,10 +48,10 @@ same-length-4 : tie.Need-same-length-4 Inv-loop μ-loop
 same-length-4 c = c .before .before .before .before .before .before .loop .inv .0 .past .store-long
 
 -- The case that the scans found.
-next-found : (c : tie.After-upper Inv-loop μ-loop) → Next (c .before .before .before .before .before .before .before .before .before .before .before .before .args .setting .inputs) (c .before .before .before .before .loop .cases) (c .before .before .before .before .loop .store) (c .before .before .first-greatest .result .0) (c .upper .result)
+next-found : (c : tie.After-upper Inv-loop μ-loop) → CaseToSplit (c .before .before .before .before .before .before .before .before .before .before .before .before .args .setting .inputs) (c .before .before .before .before .loop .cases) (c .before .before .before .before .loop .store) (c .before .before .first-greatest .result .0) (c .upper .result)
 next-found c =
     let found = c .before .before .first-greatest .ensures in
-    next-case (c .before .before .before .before .loop .inv .0 .running) _ (found .1) _ (found .0) (c .upper .ensures)
+    case-to-split (c .before .before .before .before .loop .inv .0 .running) _ (found .1) _ (found .0) (c .upper .ensures)
 
 returns : tie.Need-returns Inv-loop μ-loop
 returns c = ran-as (c .ended .ensures) (ends-exact (c .before .before .before .before .before .before .loop .inv .0) (next-found (c .before .before)) (c .before .if1 .taken))
@@ -61,8 +61,10 @@ mul-if2 c = record { fits = omega (arith, upper-low (c .before .before .before .
 
 mul-if2-2 : tie.Need-mul-if2-2 Inv-loop μ-loop
 mul-if2-2 c =
-    let running = c .before .before .before .before .before .loop .inv .0 .running in
-    record { fits = omega (arith, ratio-low (c .before .before .before .before .before .before .before .before .before .before .before .before .before .args .ratio) (c .before .before .before .before .before .loop .best - 1) (c .before .before .before .before .before .before .before .before .before .before .before .before .before .pre .4) (omega (arith, running .goal-low, running .goal-high))) }
+    let at = c .before .before .before .before .before in
+    let running = at .loop .inv .0 .running in
+    let s = at .before .before .before .before .before .before .before .before in
+    record { fits = omega (arith, ratio-low (s .args .ratio) (at .loop .best - 1) (s .pre .4) (omega (arith, running .goal-low, running .goal-high))) }
 
 ended-requires-2 : tie.Need-ended-requires-2 Inv-loop μ-loop
 ended-requires-2 c κs = search needs
@@ -102,24 +104,29 @@ returns-3 c = ran-as (c .ended3 .ensures) (ends-spent (c .before .before .before
 
 split-requires : tie.Need-split-requires Inv-loop μ-loop
 split-requires c κs =
-    let pre = c .before .before .before .before .before .before .before .before .before .before .before .before .before .before .before .before .before .before .before .pre in
-    let inv = c .before .before .before .before .before .before .before .before .before .before .before .loop .inv in
-    let space = room (inv .0) (c .before .before .before .before .if3 .left) (pre .5) (pre .6) in
-    (ready-kept (pre .0) (inv .1) (inv .2), inv .0 .running, next-found (c .before .before .before .before .before .before .before), pre .2, pre .3, space .0, space .1)
+    let found = c .before .before .before .before .before .before .before in
+    let inv = found .before .before .before .before .loop .inv in
+    let pre = found .before .before .before .before .before .before .before .before .before .before .before .before .pre in
+    let space = split-room (inv .0) (c .before .before .before .before .if3 .left) (pre .5) (pre .6) in
+    (searchable-kept (pre .0) (inv .1) (inv .2), inv .0 .running, next-found found, pre .2, pre .3, space .0, space .1)
 
 add-splits : tie.Need-add-splits Inv-loop μ-loop
-add-splits c = record { fits = omega (arith, c .before .before .before .before .before .before .before .before .before .before .before .before .before .before .before .before .before .before .before .before .loop .inv .0 .afforded, c .before .before .before .before .before .before .before .before .before .before .before .before .before .before .before .before .before .before .before .before .before .before .before .before .before .before .before .before .pre .5) }
+add-splits c =
+    let at = c .before .before .before .before .before .before .before .before .before .before .before .before .before .before .before .before .before .before .before .before in
+    record { fits = omega (arith, at .loop .inv .0 .afforded, at .before .before .before .before .before .before .before .before .pre .5) }
 
 loop-less : tie.Need-loop-less Inv-loop μ-loop
 loop-less c = omega (arith, c .before .before .before .before .before .before .before .before .before .before .before .before .before .before .before .before .before .before .before .before .loop .inv .0 .afforded, c .before .before .before .before .before .before .before .before .before .before .before .before .before .if3 .left)
 
 loop-again : tie.Need-loop-again Inv-loop μ-loop
 loop-again c =
-    let inv = c .before .before .before .before .before .before .before .before .before .before .before .before .before .before .before .before .before .before .before .before .loop .inv in
-    let kept = c .before .before .before .before .before .before .before .before .split .kept in (
-      reached-next (inv .0) (next-found (c .before .before .before .before .before .before .before .before .before .before .before .before .before .before .before .before)) (c .before .before .before .before .before .before .before .before .before .before .before .before .before .before .before .if1 .left) (c .before .before .before .before .before .before .before .before .before .before .before .before .before .before .if2 .left) (c .before .before .before .before .before .before .before .before .before .before .before .before .before .if3 .left) (c .before .before .before .before .before .before .before .before .split .ensures),
-      kept .1 .1 .1 .1 .1 .1 .1 .1 .0 ∙ inv .1,
-      kept .1 .1 .1 .1 .1 .1 .1 .1 .1 .1 .0 ∙ inv .2,
+    let done = c .before .before .before .before .before .before .before .before .split in
+    let left = c .before .before .before .before .before .before .before .before .before .before .before .before .before in
+    let found = left .before .before .before in
+    let inv = found .before .before .before .before .loop .inv in (
+      reached-next (inv .0) (next-found found) (left .before .before .if1 .left) (left .before .if2 .left) (left .if3 .left) (done .ensures),
+      done .kept .1 .1 .1 .1 .1 .1 .1 .1 .0 ∙ inv .1,
+      done .kept .1 .1 .1 .1 .1 .1 .1 .1 .1 .1 .0 ∙ inv .2,
     )
 
 pub run-spec : {M : Type 1} → statement M

@@ -45,19 +45,25 @@ same-length-2 c = search needs
 
 returns : tie.Need-returns
 returns c =
-    let start = c .before .before .before .before .before .before .before .before .before .before .before .before .before .before .before .before .before .before .before .before .before .before .before in
-    case-simulated (start .pre .0 .accepted) (start .args .setting .hops) (start .args .store .now) (start .args .k .0) (c .before .before .before .before .before .before .before .before .before .before .before .before .before .before .before .before .read-sets .ensures) (c .before .before .before .before .before .before .before .before .before .before .before .before .before .is-decided .ensures) (c .before .before .before .before .before .before .before .before .before .before .before .before .if1 .taken)
-    (c .before .before .before .before .before .before .before .before .before .write-probe .ensures) (c .before .before .before .before .evaluate-pattern .ensures)
+    let drawn = c .before .before .before .before in
+    let written = drawn .before .before .before .before .before in
+    let tested = written .before .before .before in
+    let read = tested .before .before .before .before in
+    let s = read .before .before .before .before .before .before .before in
+    case-simulated (s .pre .0 .accepted) (s .args .setting .hops) (s .args .store .now) (s .args .k .0) (read .read-sets .ensures)
+    (tested .before .is-decided .ensures) (tested .if1 .taken) (written .write-probe .ensures) (drawn .evaluate-pattern .ensures)
 
 slice-aggregate-evaluate : tie.Need-slice-aggregate-evaluate
 slice-aggregate-evaluate c = search needs
 
 evaluate-requires : tie.Need-evaluate-requires
 evaluate-requires c κs =
-    let start = c .before .before .before .before .before .before .before .before .before .before .before .before .before .before in
-    let ready = start .pre .0 in
-    let copied = c .before .before .before .before .before .before .before .read-sets .ensures in
-    case-given ready (copied .long ∙ length-replicate {A = ℕ} 64 0) (codes-copied _ (ready .accepted .few-inputs) (start .args .store .now) (start .args .k .0) _ _ copied (start .pre .2))
+    let read = c .before .before .before .before .before .before .before in
+    let s = read .before .before .before .before .before .before .before in
+    let ready = s .pre .0 in
+    let copied = read .read-sets .ensures in
+    case-given ready (copied .long ∙ length-replicate {A = ℕ} 64 0)
+    (codes-copied _ (ready .accepted .few-inputs) (s .args .store .now) (s .args .k .0) _ _ copied (s .pre .2))
 
 same-length-3 : tie.Need-same-length-3
 same-length-3 c = search needs
@@ -67,9 +73,12 @@ same-length-4 c = search needs
 
 returns-2 : tie.Need-returns-2
 returns-2 c =
-    let start = c .before .before .before .before .before .before .before .before .before .before .before .before .before .before .before .before .before .before .before in
-    case-enveloped (start .pre .0 .accepted) (start .args .setting .hops) (start .args .store .now) (start .args .k .0) (c .before .before .before .before .before .before .before .before .before .before .before .before .read-sets .ensures) (c .before .before .before .before .before .before .before .before .before .is-decided .ensures) (c .before .before .before .before .before .before .before .before .if1 .left)
-    (c .before .before .before .before .evaluate .ensures)
+    let drawn = c .before .before .before .before in
+    let tested = drawn .before .before .before .before in
+    let read = tested .before .before .before .before in
+    let s = read .before .before .before .before .before .before .before in
+    case-enveloped (s .pre .0 .accepted) (s .args .setting .hops) (s .args .store .now) (s .args .k .0) (read .read-sets .ensures)
+    (tested .before .is-decided .ensures) (tested .if1 .left) (drawn .evaluate .ensures)
 
 pub draw-case-spec : {M : Type 1} → statement M
 draw-case-spec =

@@ -1,4 +1,4 @@
--- `search::split::split` meets its contract.
+-- `search::split::split` meets its contract. The loop's invariant: the children of the excitations below e are made.
 -- Assumes nothing.
 use Prim.Native.Nat.{ℕ, _-_, _≤_}
 use mathlib.Core.Path.{_≡_, refl, _∙_}
@@ -6,18 +6,18 @@ use native.Mathlib.Omega.{arith}
 use lib.ListN.{length, length-replicate}
 use borrow.Author.Needs.{needs}
 use Rattle.cases.proofs.Records.{codes-copied}
+use Rattle.search.proofs.Making.{searchable-kept}
 use Rattle.search.proofs.Splitting.{Splitting, child-room, splitting-begun, splitting-next, case-split}
 use Rattle.search.proofs.split.split.Statement.{statement}
 use Rattle.search.proofs.split.split.Tie as tie
 
 abbrev Inv-loop : tie.InvT-loop
-Inv-loop file setting table cones cap n goal sheet₀ pattern₀ work₀ store₀ parent input cases₀ next₀ best₀ e₀ sheet pattern work store cases next best e =
+Inv-loop file setting table cones cap n goal sheet₀ pattern₀ work₀ store₀ parent input step₀ e₀ sheet pattern work store step e =
     (e ≤ 4) × (length sheet ≡ length sheet₀) × (length work ≡ length work₀)
-    × Splitting file (setting .inputs) (setting .hops) table parent (input .0) next₀ cap n goal store₀ pattern₀ e cases next best store pattern
+    × Splitting file (setting .inputs) (setting .hops) table parent (input .0) (step₀ .next .0) cap n goal store₀ pattern₀ e (step .cases) (step .next .0) (step .goal) store pattern
 
 abbrev μ-loop : tie.MeasureT-loop
-μ-loop file setting table cones cap n goal sheet₀ pattern₀ work₀ store₀ parent input cases₀ next₀ best₀ e₀ sheet pattern work store cases next best e =
-    4 - e
+μ-loop file setting table cones cap n goal sheet₀ pattern₀ work₀ store₀ parent input step₀ e₀ sheet pattern work store step e = 4 - e
 
 slice-aggregate-read-sets : tie.Need-slice-aggregate-read-sets Inv-loop μ-loop
 slice-aggregate-read-sets c = search needs
@@ -32,9 +32,10 @@ slice-aggregate-choose c = search needs
 
 choose-requires : tie.Need-choose-requires Inv-loop μ-loop
 choose-requires c κs =
-    let s = c .before .before .before .before .before .before .before .before .before .before .before .before in
+    let read = c .before .before in
+    let s = read .before .before .before .before .before .before .before .before .before .before in
     let accepted = s .pre .0 .accepted in
-    let long = c .before .before .read-sets .ensures .long ∙ length-replicate {A = ℕ} 64 0 in
+    let long = read .read-sets .ensures .long ∙ length-replicate {A = ℕ} 64 0 in
     (accepted .one-input, omega (arith, accepted .few-inputs, long), omega (arith, accepted .few-inputs, s .pre .4))
 
 loop-holds : tie.Need-loop-holds Inv-loop μ-loop
@@ -45,25 +46,22 @@ slice-aggregate-make-child c = search needs
 
 make-child-requires : tie.Need-make-child-requires Inv-loop μ-loop
 make-child-requires c κs =
-    let s = c .before .before .before .before .before .before .before .before .before .before .before .before .before .before .before .before .before .before .before .before in
+    let turn = c .before .before .before .before .before in
+    let at = turn .before .loop in
+    let chosen = turn .before .before in
+    let read = chosen .before .before .before in
+    let s = read .before .before .before .before .before .before .before .before .before .before in
     let ready = s .pre .0 in
-    let turn = c .before .before .before .before .before .before .loop in
-    let copied = c .before .before .before .before .before .before .before .before .before .before .read-sets .ensures in
-    let long = copied .long ∙ length-replicate {A = ℕ} 64 0 in
-    let below = c .before .before .before .before .before .loop-test .taken in
-    let room = child-room (s .pre .2 .inside) below (s .pre .6) (s .pre .5) (turn .inv .3) in (
-      record {
-        accepted = ready .accepted;
-        some-hops = ready .some-hops;
-        sheet-long = turn .inv .1 ∙ ready .sheet-long;
-        rows = record { whole = omega (arith, ready .rows .whole, turn .inv .2); numbered = ready .rows .numbered };
-      },
-      long,
+    let copied = read .read-sets .ensures in
+    let below = turn .loop-test .taken in
+    let room = child-room (s .pre .2 .inside) below (s .pre .6) (s .pre .5) (at .inv .3) in (
+      searchable-kept ready (at .inv .1) (at .inv .2),
+      copied .long ∙ length-replicate {A = ℕ} 64 0,
       codes-copied (s .args .setting .inputs) (ready .accepted .few-inputs) (s .args .store .now) (s .args .k .0) _ _ copied
           (s .pre .1 .cases .codes (s .args .k .0) (s .pre .2 .inside)),
-      c .before .before .before .before .before .before .before .choose .ensures .1,
+      chosen .choose .ensures .1,
       below,
-      turn .inv .3 .best .long ∙ s .pre .1 .pattern-long,
+      at .inv .3 .best .long ∙ s .pre .1 .pattern-long,
       room .0,
       room .1,
     )
@@ -76,19 +74,22 @@ loop-less c = omega (arith, c .before .before .before .before .before .before .b
 
 loop-again : tie.Need-loop-again Inv-loop μ-loop
 loop-again c =
-    let s = c .before .before .before .before .before .before .before .before .before .before .before .before .before .before .before .before .before .before .before .before .before .before .before .before .before .before .before .before .before in
+    let made = c .before .before .before .before .before .before .before .before .make-child in
+    let turn = c .before .before .before .before .before .before .before .before .before .before .before .before .before .before in
+    let at = turn .before .loop in
+    let chosen = turn .before .before in
+    let read = chosen .before .before .before in
+    let s = read .before .before .before .before .before .before .before .before .before .before in
     let accepted = s .pre .0 .accepted in
-    let turn = c .before .before .before .before .before .before .before .before .before .before .before .before .before .before .before .loop in
-    let copied = c .before .before .before .before .before .before .before .before .before .before .before .before .before .before .before .before .before .before .before .read-sets .ensures in
-    let long = copied .long ∙ length-replicate {A = ℕ} 64 0 in
-    let below = c .before .before .before .before .before .before .before .before .before .before .before .before .before .before .loop-test .taken in (
-      omega arith,
-      c .before .before .before .before .before .before .before .before .make-child .kept .1 .1 .1 .1 .1 .1 .1 .1 .0 ∙ turn .inv .1,
-      c .before .before .before .before .before .before .before .before .make-child .kept .1 .1 .1 .1 .1 .1 .1 .1 .1 .1 .0 ∙ turn .inv .2,
-      splitting-next (s .pre .2 .inside) below (s .pre .6) (s .pre .5) (turn .inv .3) (accepted .few-inputs) long
+    let copied = read .read-sets .ensures in (
+      omega (arith, turn .loop-test .taken),
+      made .kept .1 .1 .1 .1 .1 .1 .1 .1 .0 ∙ at .inv .1,
+      made .kept .1 .1 .1 .1 .1 .1 .1 .1 .1 .1 .0 ∙ at .inv .2,
+      splitting-next (s .pre .2 .inside) (turn .loop-test .taken) (s .pre .6) (s .pre .5) (at .inv .3) (accepted .few-inputs)
+          (copied .long ∙ length-replicate {A = ℕ} 64 0)
           (codes-copied (s .args .setting .inputs) (accepted .few-inputs) (s .args .store .now) (s .args .k .0) _ _ copied
           (s .pre .1 .cases .codes (s .args .k .0) (s .pre .2 .inside)))
-          (c .before .before .before .before .before .before .before .before .before .before .before .before .before .before .before .before .choose .ensures .1) (c .before .before .before .before .before .before .before .before .make-child .ensures),
+          (chosen .choose .ensures .1) (made .ensures),
     )
 
 same-length : tie.Need-same-length Inv-loop μ-loop
@@ -105,9 +106,11 @@ same-length-4 c = c .before .loop .inv .3 .stored .long
 
 returns : tie.Need-returns Inv-loop μ-loop
 returns c =
-    let s = c .before .before .before .before .before .before .before .before .before .before .before .before .before .before .before in
     let done = c .before .loop in
-    case-split (s .args .cones .now) (s .pre .0 .accepted) (s .pre .1) (s .pre .2) (s .pre .3) (c .before .before .before .before .before .read-sets .ensures) (c .before .before .choose .ensures .0)
+    let chosen = c .before .before in
+    let read = chosen .before .before .before in
+    let s = read .before .before .before .before .before .before .before .before .before .before in
+    case-split (s .args .cones .now) (s .pre .0 .accepted) (s .pre .1) (s .pre .2) (s .pre .3) (read .read-sets .ensures) (chosen .choose .ensures .0)
     (omega (arith, done .inv .0, c .loop-test .left)) (done .inv .3)
 
 pub split-spec : {M : Type 1} → statement M

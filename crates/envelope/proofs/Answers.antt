@@ -1,4 +1,4 @@
--- The outcomes of Envelope: the file is refused, another argument is refused, or the call is accepted.
+-- What Envelope answers: the file is refused, another argument is refused, or the call is accepted.
 -- Assumes nothing.
 use Prim.Native.Nat.{ℕ, _*_, _≤_}
 use mathlib.Core.List.{List}
@@ -26,13 +26,13 @@ use Rattle.evaluation.proofs.Operations.{after-refusal, after-counts}
 use Rattle.envelope.specs.Envelope.{argumentChecks, envelopeVerdict, frameSheet, Enveloped, FrameEvaluated}
 
 -- What accepted arguments are.
-pub record Right (nets hops table sheet work : ℕ) : Type 0 where
+pub record ArgumentsRight (nets hops table sheet work : ℕ) : Type 0 where
   pub some-hops : 1 ≤ hops
   pub sheet-long : sheet ≡ 8192
   pub work-long : 160 * nets ≤ work
 
 pub arguments-right : (nets hops table sheet work : ℕ) → verdict (argumentChecks nets hops table sheet work) ≡ verdict-is.Accepted
-    → Right nets hops table sheet work
+    → ArgumentsRight nets hops table sheet work
 unfolding argumentChecks hopsRight within
 arguments-right nets hops table sheet work e =
     let a = passed 11 0 _ _ e in

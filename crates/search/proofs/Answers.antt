@@ -1,4 +1,4 @@
--- The outcomes of Search: the file is refused, another argument is refused, or the call is accepted and the search runs to its end.
+-- What Search answers: the file is refused, another argument is refused, or the call is accepted and the search runs to its end.
 -- Assumes nothing.
 use Prim.Native.Nat.{ℕ, _+_}
 use mathlib.Core.List.{List, _++_}
@@ -7,7 +7,6 @@ use native.Mathlib.Omega.{arith}
 use lib.ListN.{length}
 use Rattle.excitation.specs.Excitation.{patternOf}
 use Rattle.block.specs.Accepted.{AcceptedFile}
-use Rattle.block.specs.Block.{frame}
 use Rattle.block.specs.Record.{File}
 use Rattle.block.specs.Refusals.{readOf}
 use Rattle.block.specs.Verdict.{Check, verdict}
@@ -20,25 +19,24 @@ use Rattle.current.specs.Current.{sheetWords}
 use Rattle.evaluation.specs.Operation.{bufferAfter, WorkAfter}
 use Rattle.evaluation.proofs.Operations.{after-refusal, after-counts}
 use Rattle.cases.specs.Records.{casesIn}
-use Rattle.cases.specs.Search.{State, firstState, searchFrom, search}
+use Rattle.cases.specs.Search.{searchFrom, search}
 use Rattle.cases.specs.Store.{storeWith, patternWith}
 use Rattle.cases.proofs.Bytes.{store-is, pattern-is}
 use Rattle.cases.proofs.Records.{cases-long}
-use Rattle.search.specs.Search.{simulatedDrop, envelopeDrop, chooseIn, searchOf, sheetOver, limitChecks, bufferChecks, searchVerdict, foundAnswer, answerAfter, Searched}
-use Rattle.search.specs.Steps.{bestIn, stateIn, PastKept, Ran, BlockSearched}
+use Rattle.search.specs.Search.{simulatedDrop, envelopeDrop, chooseIn, searchOf, sheetOver, limitChecks, bufferChecks, searchVerdict, foundAnswer, searchAnswerAfter, Searched}
+use Rattle.search.specs.Steps.{bestIn, stateIn, PastKept, FirstMade, Ran, BlockSearched}
 use Rattle.search.specs.declared.Ended.{Ended}
 use Rattle.search.specs.declared.SearchAnswer.{SearchAnswer}
 use Rattle.search.specs.declared.SearchAnswer.the-variants as answer
 use Rattle.search.proofs.Running.{past-kept}
 
 -- A run from the first state on ends where the search ends, and leaves its answer and its buffers.
-module _ {file : File} {nets inputs hops : ℕ} (accepted : AcceptedFile file nets inputs) {table : List ℕ} {ratio budget : ℕ} {start : State}
-    {store pattern store′ pattern′ store″ pattern″ : List ℕ} {ended : Ended}
-    (first : start ≡ firstState (simulatedDrop file table) (envelopeDrop file hops table) (frame file))
-    (kept : PastKept inputs 1 store pattern store′ pattern′) (ran : Ran file inputs hops table ratio budget start store′ pattern′ ended store″ pattern″) where
+module _ {file : File} {nets inputs hops : ℕ} (accepted : AcceptedFile file nets inputs) {table : List ℕ} {ratio budget goal : ℕ}
+    {store pattern store′ pattern′ store″ pattern″ : List ℕ} {ended : Ended} (first : FirstMade file inputs hops table store pattern goal store′ pattern′)
+    (ran : Ran file inputs hops table ratio budget (stateIn inputs 1 goal store′ pattern′) store′ pattern′ ended store″ pattern″) where
   found-is : ran .found ≡ searchOf file hops table ratio budget
   unfolding searchOf search
-  found-is = ran .is ∙ ap (searchFrom (simulatedDrop file table) (envelopeDrop file hops table) (chooseIn file) ratio budget 0) first
+  found-is = ran .is ∙ ap (searchFrom (simulatedDrop file table) (envelopeDrop file hops table) (chooseIn file) ratio budget 0) (first .state)
 
   cases-held : casesIn inputs store″ (ended .cases) ≡ ran .found .state .cases
   unfolding stateIn
@@ -58,7 +56,7 @@ module _ {file : File} {nets inputs hops : ℕ} (accepted : AcceptedFile file ne
   count-held = rw (← cases-held, cases-long) refl
 
   past : PastKept inputs (ended .cases) store pattern store″ pattern″
-  past = past-kept (ran .running .some) kept (ran .past)
+  past = past-kept (ran .running .some) (first .past) (ran .past)
 
   answer-is : answer.Found (ended .outcome) (ended .upper) (ended .lower) (ended .splits) (ended .cases) ≡ foundAnswer (searchOf file hops table ratio budget)
   unfolding foundAnswer
@@ -81,7 +79,7 @@ module _ {file : File} {nets inputs hops : ℕ} (accepted : AcceptedFile file ne
 module _ (file : File) (hops : ℕ) (table : List ℕ) (ratio budget : ℕ) (sheet pattern work store : List ℕ) where
   by-verdict : (v : Verdict) (r : SearchAnswer) (sheet′ pattern′ work′ store′ : List ℕ)
       → searchVerdict file hops table ratio budget sheet pattern work store ≡ v
-      → r ≡ answerAfter v (searchOf file hops table ratio budget)
+      → r ≡ searchAnswerAfter v (searchOf file hops table ratio budget)
       → sheet′ ≡ bufferAfter v (sheetWords (sheetOver file hops (searchOf file hops table ratio budget .state .cases))) sheet
       → pattern′ ≡ bufferAfter v (patternWith (searchOf file hops table ratio budget .state .best .pattern) pattern) pattern
       → store′ ≡ bufferAfter v (storeWith (searchOf file hops table ratio budget .state .cases) store) store

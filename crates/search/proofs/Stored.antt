@@ -23,13 +23,13 @@ use Rattle.search.specs.Steps.{bestIn}
 -- A store that holds these cases, and a pattern that holds this best probe, with the goal that the next probe has to reach. Past them
 -- both are as they were given.
 
-pub record CasesHeld (inputs : ℕ) (given : List ℕ) (held : List StoredCase) (n : ℕ) (store : List ℕ) : Type 0 where
+pub record CasesStored (inputs : ℕ) (given : List ℕ) (held : List StoredCase) (n : ℕ) (store : List ℕ) : Type 0 where
   pub is : casesIn inputs store n ≡ held
   pub has : HasCases inputs store n
   pub long : length store ≡ length given
   pub past : (j : ℕ) → 72 * n ≤ j → getD store j 0 ≡ getD given j 0
 
-pub record BestHeld (inputs : ℕ) (given : List ℕ) (held : Best) (goal : ℕ) (pattern : List ℕ) : Type 0 where
+pub record BestStored (inputs : ℕ) (given : List ℕ) (held : Best) (goal : ℕ) (pattern : List ℕ) : Type 0 where
   pub is : bestIn inputs goal pattern ≡ held
   pub goal-low : 1 ≤ goal
   pub goal-high : goal ≤ 2 ^ 46
@@ -61,7 +61,7 @@ module _ (simulated : List Excitation → ℕ) where
       → simulated (probe case) < 2 ^ 46
       → (simulated (probe case) < goal → (goal′ ≡ goal) × (pattern′ ≡ pattern))
       → (goal ≤ simulated (probe case) → (goal′ ≡ simulated (probe case) + 1) × (patternOf inputs pattern′ ≡ probe case) × Rewritten (patternByte (probe case)) 0 inputs pattern pattern′)
-      → BestHeld inputs given held goal pattern → BestHeld inputs given (better simulated held case) goal′ pattern′
+      → BestStored inputs given held goal pattern → BestStored inputs given (better simulated held case) goal′ pattern′
   unfolding patternByte
   best-next {inputs} {given} {held} {goal} {goal′} {pattern} {pattern′} case high kept reached now =
       let drop = simulated (probe case) in

@@ -1,4 +1,4 @@
--- The outcomes of Simulate: the file is refused, another argument is refused, or the call is accepted.
+-- What Simulate answers: the file is refused, another argument is refused, or the call is accepted.
 -- Assumes nothing.
 use Prim.Native.Nat.{ℕ, _*_, _≤_}
 use mathlib.Core.List.{List, _++_}
@@ -24,13 +24,13 @@ use Rattle.evaluation.proofs.Operations.{after-refusal, after-counts}
 use Rattle.simulator.specs.Simulate.{bytesFrom, sizeChecks, simulateVerdict, patternSheet, Simulated, PatternEvaluated}
 
 -- What accepted sizes are.
-pub record Right (nets table sheet pattern work : ℕ) : Type 0 where
+pub record SizesRight (nets table sheet pattern work : ℕ) : Type 0 where
   pub sheet-long : sheet ≡ 8192
   pub pattern-long : pattern ≡ 64
   pub work-long : 160 * nets ≤ work
 
 pub sizes-right : (nets table sheet pattern work : ℕ) → verdict (sizeChecks nets table sheet pattern work) ≡ verdict-is.Accepted
-    → Right nets table sheet pattern work
+    → SizesRight nets table sheet pattern work
 unfolding sizeChecks
 sizes-right nets table sheet pattern work e =
     let a = passed 12 0 _ _ e in

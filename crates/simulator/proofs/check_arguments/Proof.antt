@@ -1,12 +1,12 @@
--- `simulator::check_lent` meets its contract.
+-- `simulator::check_arguments` meets its contract.
 -- Assumes nothing.
 use mathlib.Core.Path.{sym, _∙_}
 use native.Mathlib.Omega.{arith}
 use borrow.Author.Needs.{needs}
 use Rattle.block.proofs.Verdicts.{refused-first, accepted-first}
-use Rattle.simulator.proofs.Outcomes.{sizes-right}
-use Rattle.simulator.proofs.check_lent.Statement.{statement}
-use Rattle.simulator.proofs.check_lent.Tie as tie
+use Rattle.simulator.proofs.Answers.{sizes-right}
+use Rattle.simulator.proofs.check_arguments.Statement.{statement}
+use Rattle.simulator.proofs.check_arguments.Tie as tie
 
 check-sizes-requires : tie.Need-check-sizes-requires
 check-sizes-requires c κs = search needs
@@ -30,7 +30,7 @@ returns c = sym (refused-first _ _ _ (sym (c .before .before .before .check-size
 returns-2 : tie.Need-returns-2
 returns-2 c = c .check-pattern .ensures ∙ sym (accepted-first _ _ (sym (c .before .before .before .check-sizes .ensures) ∙ c .before .enum-told .given .1))
 
-pub check-lent-spec : {M : Type 1} → statement M
-check-lent-spec =
+pub check-arguments-spec : {M : Type 1} → statement M
+check-arguments-spec =
     tie.close
     (tie.spec check-sizes-requires enum-known-r enum-told check-pattern-requires returns returns-2)
