@@ -12,15 +12,19 @@ use super::Verdict;
 use super::kind;
 use super::record;
 
-// The refusal of the record of a net.
-pub fn refused(number: u64, net: Net) -> Verdict
+// The verdict that refuses, with document 01's number and place.
+pub fn refused(number: u64, place: u64) -> Verdict
+    ensures { λ r. ⌜ r ≡ Refused (refusal number place) ⌝ }
+{
+    Verdict::Refused(Refusal { number, place })
+}
+
+// The verdict that refuses the record of a net.
+pub fn refused_net(number: u64, net: Net) -> Verdict
     ensures { λ r. ⌜ r ≡ Refused (refusal number (net .0)) ⌝ }
 {
     let place = net.0;
-    Verdict::Refused(Refusal {
-        number,
-        place: place as u64,
-    })
+    refused(number, place as u64)
 }
 
 // Whether x is low to high.
@@ -137,16 +141,16 @@ fn check_input(file: &[u8], net: Net, inputs: usize) -> Verdict
     ensures { λ r. ⌜ r ≡ verdict (inputChecks (now (file .entry)) (net .0)) ⌝ }
 {
     if inputs != net.0 {
-        return refused(5, net);
+        return refused_net(5, net);
     }
     if 64 <= inputs {
-        return refused(5, net);
+        return refused_net(5, net);
     }
     if !input_spare_zero(file, net) {
-        return refused(7, net);
+        return refused_net(7, net);
     }
     if !in_range(record::allowed(file, net), 1, 15) {
-        return refused(9, net);
+        return refused_net(9, net);
     }
     Verdict::Accepted
 }
@@ -157,16 +161,16 @@ fn check_gate(file: &[u8], net: Net) -> Verdict
     ensures { λ r. ⌜ r ≡ verdict (gateChecks (now (file .entry)) (net .0)) ⌝ }
 {
     if !pin_count_right(file, net) {
-        return refused(6, net);
+        return refused_net(6, net);
     }
     if !gate_spare_zero(file, net) {
-        return refused(7, net);
+        return refused_net(7, net);
     }
     if !pins_below(file, net) {
-        return refused(8, net);
+        return refused_net(8, net);
     }
     if !gate_in_range(file, net) {
-        return refused(9, net);
+        return refused_net(9, net);
     }
     Verdict::Accepted
 }
@@ -178,7 +182,7 @@ pub fn check_fields(file: &[u8], net: Net, inputs: usize) -> Verdict
 {
     let kind = record::kind(file, net);
     if !in_range(kind, 1, 9) {
-        return refused(4, net);
+        return refused_net(4, net);
     }
     if kind == 1 {
         return check_input(file, net, inputs);

@@ -58,7 +58,7 @@ fn check_record(file: &[u8], net: Net, inputs: usize, arrivals: &mut [u8; 1024])
     }
     let a = arrival(file, net, arrivals);
     if 255 < a {
-        return checks::refused(10, net);
+        return checks::refused_net(10, net);
     }
     let at = net.0;
     arrivals[at] = (a % 256) as u8;

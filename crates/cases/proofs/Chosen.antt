@@ -1,6 +1,6 @@
 -- Laws of the choice of the input to split: it takes an undecided one, and a scan of the codes finds it.
 -- Assumes nothing.
-use Prim.Native.Nat.{ℕ, _≤_}
+use Prim.Native.Nat.{ℕ, _≤_, _<_}
 use mathlib.Core.Bool.{true}
 use mathlib.Core.List.{List}
 use mathlib.Core.Path.{_≡_, ap, sym, _∙_}
@@ -11,8 +11,11 @@ use Rattle.laws.specs.Below.{firstGreatest}
 use Rattle.laws.proofs.Below.{max-at, first-greatest-is, first-greatest-same}
 use Rattle.excitation.specs.UncertaintySet.{UncertaintySet, empty, decode, setsIn}
 use Rattle.excitation.proofs.Codes.{set-at, sets-long}
+use Rattle.laws.proofs.Turn.{list-at}
+use Rattle.block.specs.Block.{inputCount, coneSize}
+use Rattle.block.specs.Record.{File}
 use Rattle.cases.specs.Case.{undecided}
-use Rattle.cases.specs.Choice.{rankOf, rank, chosenInput}
+use Rattle.cases.specs.Choice.{coneSizes, rankOf, rank, chosenInput}
 use Rattle.cases.specs.Promise.{Chooses}
 use Rattle.cases.proofs.Cases.{some-undecided}
 
@@ -47,3 +50,13 @@ unfolding chosenInput rank
 chosen-is inputs codes cones =
     sym (ap (λ n. firstGreatest n (rank cones (setsIn inputs codes))) (sets-long inputs codes)
     ∙ first-greatest-same inputs _ _ (λ net h. ap (λ s. rankOf s (getD cones net 0)) (set-at inputs codes net h)))
+
+-- The cones of a case's inputs alone choose the input.
+pub chosen-same : (cones others : List ℕ) (case : List UncertaintySet) → ((net : ℕ) → net < length case → getD cones net 0 ≡ getD others net 0)
+    → chosenInput cones case ≡ chosenInput others case
+unfolding chosenInput rank
+chosen-same cones others case same = first-greatest-same (length case) _ _ (λ net h. ap (rankOf (getD case net empty)) (same net h))
+
+pub cones-at : (file : File) (net : ℕ) → net < inputCount file → getD (coneSizes file) net 0 ≡ coneSize file net
+unfolding coneSizes
+cones-at file net h = list-at (inputCount file) (coneSize file) net 0 h

@@ -7,8 +7,8 @@ ghost use Rattle.block.specs.Verdict.{verdict};
 ghost use Rattle.evaluation.specs.Evaluation.{HasRows};
 ghost use Rattle.envelope.specs.Envelope.{argumentChecks, FrameEvaluated, Enveloped};
 use block::ReadAnswer;
-use block::Refusal;
 use block::Verdict;
+use current::Word;
 use evaluation::CurrentsAnswer;
 use evaluation::arguments;
 
@@ -18,28 +18,16 @@ fn check_arguments(nets: usize, hops: u64, table: usize, sheet: usize, work: usi
     ensures { λ r. ⌜ r ≡ verdict (argumentChecks nets hops table sheet work) ⌝ }
 {
     if !arguments::hops_right(hops) {
-        return Verdict::Refused(Refusal {
-            number: 11,
-            place: 0,
-        });
+        return block::refused(11, 0);
     }
     if !arguments::table_right(table) {
-        return Verdict::Refused(Refusal {
-            number: 12,
-            place: 0,
-        });
+        return block::refused(12, 0);
     }
     if sheet != 8192 {
-        return Verdict::Refused(Refusal {
-            number: 15,
-            place: 1,
-        });
+        return block::refused(15, 1);
     }
     if work < 160 * nets {
-        return Verdict::Refused(Refusal {
-            number: 15,
-            place: 3,
-        });
+        return block::refused(15, 3);
     }
     Verdict::Accepted
 }
@@ -51,7 +39,7 @@ fn evaluate_frame(
     inputs: usize,
     hops: usize,
     table: &[u16],
-    sheet: &mut [u32],
+    sheet: &mut [Word],
     work: &mut [u8],
 ) -> CurrentsAnswer
     requires { ⌜ AcceptedFile (now file) nets inputs × (1 ≤ hops) × (length (now sheet) ≡ 8192) × HasRows (now work) nets ⌝ }
@@ -71,7 +59,7 @@ pub fn envelope(
     file: &[u8],
     hops: u64,
     table: &[u16],
-    sheet: &mut [u32],
+    sheet: &mut [Word],
     work: &mut [u8],
 ) -> CurrentsAnswer
     ensures { λ r. ⌜ Enveloped (now (file .entry)) hops (now (table .entry)) (now (sheet .entry)) (now (work .entry)) r (now (sheet .exit)) (now (work .exit)) ⌝ }

@@ -4,6 +4,7 @@ ghost use Prim.Native.Nat.{_≤_};
 ghost use lib.ListN.{length};
 use block::ReadAnswer;
 use cases::Outcome;
+use current::Word;
 use libc::STDIN_FILENO;
 use libc::STDOUT_FILENO;
 use search::SearchAnswer;
@@ -102,7 +103,7 @@ fn estimate(file: &[u8], inputs: usize)
     requires { ⌜ inputs ≤ 64 ⌝ }
 {
     let table = [1u16; 16];
-    let mut sheet = [0u32; 8192];
+    let mut sheet: [Word; 8192] = [0; 8192];
     let mut pattern = [0u8; 64];
     let mut work = [0u8; 40960];
     let mut store = [0u8; 43272];

@@ -8,16 +8,14 @@ use native.Mathlib.Omega.{arith}
 use lib.ListN.{length, getD, set, length-set}
 use borrow.Table.Steps.{cases}
 use Rattle.laws.specs.Rewritten.{Rewritten}
-use Rattle.laws.proofs.Below.{first-greatest-same}
-use Rattle.laws.proofs.Turn.{list-at}
 use Rattle.excitation.specs.Excitation.{excitationOf}
 use Rattle.excitation.specs.UncertaintySet.{member, empty, code, decode, single, setsIn}
 use Rattle.excitation.proofs.Codes.{set-at, sets-long}
 use Rattle.block.specs.Accepted.{AcceptedFile}
-use Rattle.block.specs.Block.{inputCount, coneSize}
 use Rattle.block.specs.Record.{File}
 use Rattle.cases.specs.Case.{Case, membersBelow, childrenBelow}
-use Rattle.cases.specs.Choice.{coneSizes, rankOf, rank, chosenInput}
+use Rattle.cases.specs.Choice.{coneSizes, chosenInput}
+use Rattle.cases.proofs.Chosen.{chosen-same, cones-at}
 use Rattle.cases.specs.Records.{casesIn, HasCase, SetCodes}
 use Rattle.cases.specs.Search.{setsAt, greatestUpper, nextSplit, placed, bestOf, madeUnder, nextChildren, split}
 use Rattle.cases.proofs.Codes.{probe-read}
@@ -123,15 +121,6 @@ module _ {file : File} {inputs hops : ℕ} {table parent : List ℕ} {input k ca
         (λ t. let q = child .counted t in rw (q .1, q .0) (added t (child .made t)))
         (λ t. let q = child .skipped t in rw (q .0, q .1, q .2) (skipped t))
 
--- The cones of the inputs alone choose the input.
-chosen-same : {file : File} {nets inputs : ℕ} (cones : List ℕ) (case : Case) → AcceptedFile file nets inputs → Cones file inputs cones
-    → length case ≡ inputs → chosenInput cones case ≡ chosenInput (coneSizes file) case
-unfolding chosenInput rank coneSizes
-chosen-same {file} cones case accepted are long =
-    first-greatest-same (length case) _ _
-    (λ net h. ap (rankOf (getD case net empty))
-    (are net (omega arith) ∙ sym (list-at (inputCount file) (coneSize file) net 0 (omega (arith, accepted .input-count)))))
-
 -- A split, once the children of all four excitations are made.
 pub case-split : (cones : List ℕ) {file : File} {nets inputs hops : ℕ} {table parent given : List ℕ} {input k cap n goal : ℕ} {store pattern : List ℕ}
     {e count next goal′ : ℕ} {store′ pattern′ : List ℕ} → AcceptedFile file nets inputs → Running inputs n goal store pattern
@@ -149,8 +138,9 @@ case-split cones {file} {nets} {inputs} {hops} {table} {parent} {given} {input} 
     let sets = setsAt xs at in
     let split-is : case ≡ sets =
     sets-copied inputs (accepted .few-inputs) store k given parent copied ∙ sym (sets-at inputs store n k (to .inside)) ∙ ap (setsAt xs) (to .place) in
-    let input-is : input ≡ chooseIn file sets =
-    chosen ∙ chosen-same cones case accepted are (sets-long inputs parent) ∙ ap (chooseIn file) split-is in
+    let few : length case ≡ inputs = sets-long inputs parent in
+    let same = chosen-same cones (coneSizes file) case (λ net h. are net (omega (arith, few)) ∙ sym (cones-at file net (omega (arith, few, accepted .input-count)))) in
+    let input-is : input ≡ chooseIn file sets = chosen ∙ same ∙ ap (chooseIn file) split-is in
     let new-is : childrenBelow e input case ≡ childrenBelow 4 (chooseIn file sets) sets =
     ap (λ m. childrenBelow m input case) end ∙ ap (λ i. childrenBelow 4 i case) input-is ∙ ap (childrenBelow 4 (chooseIn file sets)) split-is in
     let cases-are : casesIn inputs store′ count ≡ placed at (map (madeUnder simulated bound (greatestUpper xs)) (childrenBelow 4 (chooseIn file sets) sets)) xs =

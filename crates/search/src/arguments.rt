@@ -2,20 +2,11 @@
 ghost use mathlib.Core.Path.{_≡_};
 ghost use mathlib.Core.List.{_++_};
 ghost use Prim.Native.Nat.{_≤_};
-ghost use Rattle.block.specs.Verdict.{refusal, verdict};
-ghost use Rattle.block.specs.declared.Verdict.the-variants.{Refused};
+ghost use Rattle.block.specs.Verdict.{verdict};
 ghost use Rattle.evaluation.specs.Arguments.{ratioRight};
 ghost use Rattle.search.specs.Search.{limitChecks, bufferChecks};
-use block::Refusal;
 use block::Verdict;
 use evaluation::arguments;
-
-// The verdict that refuses, with document 01's number and place.
-fn refused(number: u64, place: u64) -> Verdict
-    ensures { λ r. ⌜ r ≡ Refused (refusal number place) ⌝ }
-{
-    Verdict::Refused(Refusal { number, place })
-}
 
 // Whether a ratio is 1,000 to 10,000.
 fn ratio_right(ratio: u64) -> bool
@@ -32,16 +23,16 @@ fn check_limits(hops: u64, table: usize, ratio: u64, budget: u64) -> Verdict
     ensures { λ r. ⌜ r ≡ verdict (limitChecks hops table ratio budget) ⌝ }
 {
     if !arguments::hops_right(hops) {
-        return refused(11, 0);
+        return block::refused(11, 0);
     }
     if !arguments::table_right(table) {
-        return refused(12, 0);
+        return block::refused(12, 0);
     }
     if !ratio_right(ratio) {
-        return refused(13, 0);
+        return block::refused(13, 0);
     }
     if 10000 < budget {
-        return refused(14, 0);
+        return block::refused(14, 0);
     }
     Verdict::Accepted
 }
@@ -59,16 +50,16 @@ fn check_buffers(
     ensures { λ r. ⌜ r ≡ verdict (bufferChecks nets budget sheet pattern work store) ⌝ }
 {
     if sheet != 8192 {
-        return refused(15, 1);
+        return block::refused(15, 1);
     }
     if pattern != 64 {
-        return refused(15, 2);
+        return block::refused(15, 2);
     }
     if work < 160 * nets {
-        return refused(15, 3);
+        return block::refused(15, 3);
     }
     if (store as u64) < 72 * (1 + 3 * budget) {
-        return refused(15, 4);
+        return block::refused(15, 4);
     }
     Verdict::Accepted
 }

@@ -10,6 +10,7 @@ use block::Verdict;
 use cases::CaseNumber;
 use cases::Outcome;
 use cases::choice;
+use current::Word;
 
 mod arguments;
 mod make;
@@ -59,7 +60,7 @@ fn search_block(
     table: &[u16],
     ratio: u64,
     budget: u64,
-    sheet: &mut [u32],
+    sheet: &mut [Word],
     pattern: &mut [u8],
     work: &mut [u8],
     store: &mut [u8],
@@ -102,7 +103,7 @@ pub fn search(
     table: &[u16],
     ratio: u64,
     budget: u64,
-    sheet: &mut [u32],
+    sheet: &mut [Word],
     pattern: &mut [u8],
     work: &mut [u8],
     store: &mut [u8],

@@ -11,6 +11,7 @@ use super::Setting;
 use cases::CaseNumber;
 use cases::sets;
 use cases::store;
+use current::Word;
 
 // The drop of a case's probe, which is left in `pattern`.
 fn probe_drop(
@@ -19,7 +20,7 @@ fn probe_drop(
     table: &[u16],
     codes: &[u8],
     pattern: &mut [u8],
-    sheet: &mut [u32],
+    sheet: &mut [Word],
     work: &mut [u8],
 ) -> u64
     requires { ⌜ Searchable (now file) (setting .nets) (setting .inputs) (setting .hops) (now sheet) (now work) × (length (now codes) ≡ 64) × (length (now pattern) ≡ 64) ⌝ }
@@ -46,7 +47,7 @@ fn own_upper(
     table: &[u16],
     codes: &[u8],
     drop: u64,
-    sheet: &mut [u32],
+    sheet: &mut [Word],
     work: &mut [u8],
 ) -> u64
     requires { ⌜ Searchable (now file) (setting .nets) (setting .inputs) (setting .hops) (now sheet) (now work) × (length (now codes) ≡ 64) × SetCodes (setting .inputs) (now codes) × (drop ≡ simulatedDrop (now file) (now table) (probe (setsIn (setting .inputs) (now codes)))) × (drop < 2 ^ 46) ⌝ }
@@ -86,7 +87,7 @@ pub fn make_case(
     cap: u64,
     goal: u64,
     at: CaseNumber,
-    sheet: &mut [u32],
+    sheet: &mut [Word],
     pattern: &mut [u8],
     work: &mut [u8],
     store: &mut [u8],
@@ -113,7 +114,7 @@ pub fn make_first(
     file: &[u8],
     setting: Setting,
     table: &[u16],
-    sheet: &mut [u32],
+    sheet: &mut [Word],
     pattern: &mut [u8],
     work: &mut [u8],
     store: &mut [u8],

@@ -8,6 +8,7 @@ use super::Setting;
 use super::split;
 use cases::Outcome;
 use cases::store;
+use current::Word;
 
 // How a search ended.
 fn ended(outcome: Outcome, upper: u64, lower: u64, splits: u64, cases: usize) -> Ended
@@ -31,7 +32,7 @@ pub fn run(
     ratio: u64,
     budget: u64,
     goal: u64,
-    sheet: &mut [u32],
+    sheet: &mut [Word],
     pattern: &mut [u8],
     work: &mut [u8],
     store: &mut [u8],

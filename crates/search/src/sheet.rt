@@ -13,16 +13,17 @@ use super::Setting;
 use cases::CaseNumber;
 use cases::sets;
 use cases::store;
+use current::Word;
 
 // The greater of two words.
-fn greater(a: u32, b: u32) -> u32
+fn greater(a: Word, b: Word) -> Word
     ensures { λ r. ⌜ r ≡ max a b ⌝ }
 {
     if a < b { b } else { a }
 }
 
 // Raises each word of a sheet to that of another.
-fn raise(sheet: &mut [u32], other: &[u32])
+fn raise(sheet: &mut [Word], other: &[Word])
     requires { ⌜ (length (now sheet) ≡ 8192) × (length (now other) ≡ 8192) ⌝ }
     ensures { λ _. ⌜ Rewritten (λ i. max (getD (now (sheet .entry)) i 0) (getD (now (other .entry)) i 0)) 0 8192 (now (sheet .entry)) (now (sheet .exit)) ⌝ }
 {
@@ -40,7 +41,7 @@ fn draw_case(
     table: &[u16],
     store: &[u8],
     k: CaseNumber,
-    sheet: &mut [u32],
+    sheet: &mut [Word],
     work: &mut [u8],
 )
     requires { ⌜ Searchable (now file) (setting .nets) (setting .inputs) (setting .hops) (now sheet) (now work) × HasCase (now store) (k .0) × SetCodes (setting .inputs) (drop (72 * k .0) (now store)) ⌝ }
@@ -74,13 +75,13 @@ pub fn draw_cases(
     table: &[u16],
     store: &[u8],
     n: usize,
-    sheet: &mut [u32],
+    sheet: &mut [Word],
     work: &mut [u8],
 )
     requires { ⌜ Searchable (now file) (setting .nets) (setting .inputs) (setting .hops) (now sheet) (now work) × HasCases (setting .inputs) (now store) n ⌝ }
     ensures { λ _. ⌜ now (sheet .exit) ≡ sheetWords (sheetOver (now (file .entry)) (setting .hops) (casesIn (setting .inputs) (now (store .entry)) n)) ⌝ }
 {
-    let mut one = [0u32; 8192];
+    let mut one: [Word; 8192] = [0; 8192];
     current::clear(sheet);
     let mut k: usize = 0;
     while k < n {

@@ -11,6 +11,7 @@ use block::Net;
 use cases::CaseNumber;
 use cases::choice;
 use cases::store;
+use current::Word;
 use excitation::Set;
 
 // The codes of a child's sets: those of its parent, but for the input that is split, whose set has the excitation of byte e alone.
@@ -35,7 +36,7 @@ fn make_child(
     e: u8,
     cap: u64,
     step: Step,
-    sheet: &mut [u32],
+    sheet: &mut [Word],
     pattern: &mut [u8],
     work: &mut [u8],
     store: &mut [u8],
@@ -81,7 +82,7 @@ pub fn split(
     cap: u64,
     n: usize,
     goal: u64,
-    sheet: &mut [u32],
+    sheet: &mut [Word],
     pattern: &mut [u8],
     work: &mut [u8],
     store: &mut [u8],

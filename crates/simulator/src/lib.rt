@@ -10,9 +10,9 @@ ghost use Rattle.evaluation.specs.Evaluation.{HasRows};
 ghost use Rattle.simulator.specs.Simulate.{byteAllowed, bytesFrom, sizeChecks, PatternCodes, PatternEvaluated, Simulated};
 use block::Net;
 use block::ReadAnswer;
-use block::Refusal;
 use block::Verdict;
 use block::record;
+use current::Word;
 use evaluation::Currents;
 use evaluation::CurrentsAnswer;
 use evaluation::arguments;
@@ -43,10 +43,7 @@ fn check_pattern(file: &[u8], inputs: usize, pattern: &[u8]) -> Verdict
     let mut net: usize = 0;
     while net < inputs {
         if !byte_allowed(file, Net(net), pattern[net]) {
-            return Verdict::Refused(Refusal {
-                number: 16,
-                place: net as u64,
-            });
+            return block::refused(16, net as u64);
         }
         net += 1;
     }
@@ -59,28 +56,16 @@ fn check_sizes(nets: usize, table: usize, sheet: usize, pattern: usize, work: us
     ensures { λ r. ⌜ r ≡ verdict (sizeChecks nets table sheet pattern work) ⌝ }
 {
     if !arguments::table_right(table) {
-        return Verdict::Refused(Refusal {
-            number: 12,
-            place: 0,
-        });
+        return block::refused(12, 0);
     }
     if sheet != 8192 {
-        return Verdict::Refused(Refusal {
-            number: 15,
-            place: 1,
-        });
+        return block::refused(15, 1);
     }
     if pattern != 64 {
-        return Verdict::Refused(Refusal {
-            number: 15,
-            place: 2,
-        });
+        return block::refused(15, 2);
     }
     if work < 160 * nets {
-        return Verdict::Refused(Refusal {
-            number: 15,
-            place: 3,
-        });
+        return block::refused(15, 3);
     }
     Verdict::Accepted
 }
@@ -122,7 +107,7 @@ pub fn evaluate_pattern(
     nets: usize,
     inputs: usize,
     table: &[u16],
-    sheet: &mut [u32],
+    sheet: &mut [Word],
     pattern: &[u8],
     work: &mut [u8],
 ) -> Currents
@@ -138,7 +123,7 @@ pub fn evaluate_pattern(
 pub fn simulate(
     file: &[u8],
     table: &[u16],
-    sheet: &mut [u32],
+    sheet: &mut [Word],
     pattern: &[u8],
     work: &mut [u8],
 ) -> CurrentsAnswer

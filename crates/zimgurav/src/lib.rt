@@ -8,6 +8,7 @@ ghost use Rattle.zimgurav.specs.Calls.{EnvelopeCalled, SimulateCalled, S
 use block::ReadAnswer;
 use block::Refusal;
 use cases::Outcome;
+use current::Word;
 use evaluation::CurrentsAnswer;
 use search::SearchAnswer;
 
@@ -82,7 +83,7 @@ pub extern "C" fn zimgurav_envelope(
     file: &[u8],
     hops: u64,
     table: &[u16],
-    sheet: &mut [u32],
+    sheet: &mut [Word],
     work: &mut [u8],
     answer: &mut [u64; 6],
 )
@@ -96,7 +97,7 @@ pub extern "C" fn zimgurav_envelope(
 pub extern "C" fn zimgurav_simulate(
     file: &[u8],
     table: &[u16],
-    sheet: &mut [u32],
+    sheet: &mut [Word],
     pattern: &[u8],
     work: &mut [u8],
     answer: &mut [u64; 6],
@@ -115,7 +116,7 @@ pub extern "C" fn zimgurav_search(
     table: &[u16],
     ratio: u64,
     budget: u64,
-    sheet: &mut [u32],
+    sheet: &mut [Word],
     pattern: &mut [u8],
     work: &mut [u8],
     store: &mut [u8],

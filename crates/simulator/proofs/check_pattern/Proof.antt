@@ -1,7 +1,7 @@
 -- `simulator::check_pattern` meets its contract.
 -- Assumes nothing.
 use Prim.Native.Nat.{_-_, _≤_}
-use mathlib.Core.Path.{_≡_, ap}
+use mathlib.Core.Path.{_≡_, ap, _∙_}
 use native.Mathlib.Nat.{sub-zero}
 use native.Mathlib.Omega.{arith}
 use borrow.Author.Needs.{needs}
@@ -29,8 +29,11 @@ shared-slice-read-byte-allowed c = let s = c .before .before .before .before .be
 byte-allowed-requires : tie.Need-byte-allowed-requires Inv-loop μ-loop
 byte-allowed-requires c κs = let s = c .before .before .before .before .before in record { whole = omega (arith, s .pre); numbered = omega (arith, s .pre) }
 
+refused-requires : tie.Need-refused-requires Inv-loop μ-loop
+refused-requires c κs = search needs
+
 returns : tie.Need-returns Inv-loop μ-loop
-returns c = let l = c .before .before .before .before .loop in byte-refused _ _ _ (l .net) (omega arith) (c .before .byte-allowed .ensures) (not-true _ (c .if1 .taken)) (l .inv .1)
+returns c = let l = c .before .before .before .before .before .loop in c .refused .ensures ∙ byte-refused _ _ _ (l .net) (omega arith) (c .before .before .byte-allowed .ensures) (not-true _ (c .before .if1 .taken)) (l .inv .1)
 
 add-net : tie.Need-add-net Inv-loop μ-loop
 add-net c = search needs
@@ -53,6 +56,7 @@ check-pattern-spec =
     loop-holds
     shared-slice-read-byte-allowed
     byte-allowed-requires
+    refused-requires
     returns
     add-net
     loop-less

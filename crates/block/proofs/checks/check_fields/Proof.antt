@@ -16,15 +16,15 @@ kind-requires c κs = search needs
 in-range-requires : tie.Need-in-range-requires
 in-range-requires c κs = search needs
 
-refused-requires : tie.Need-refused-requires
-refused-requires c κs = search needs
+refused-net-requires : tie.Need-refused-net-requires
+refused-net-requires c κs = search needs
 
 returns : tie.Need-returns
 unfolding fieldChecks kindKnown
 returns c =
     let at4 = c .before in
     let fails4 = refuted (at4 .before .in-range .ensures ∙ ap (within 1 9) (at4 .before .before .kind .ensures .0)) (at4 .if1 .taken) in
-    fails _ _ _ fails4 (c .refused .ensures)
+    fails _ _ _ fails4 (c .refused-net .ensures)
 
 check-input-requires : tie.Need-check-input-requires
 check-input-requires c κs = search needs
@@ -52,7 +52,7 @@ check-fields-spec =
     (tie.spec
     kind-requires
     in-range-requires
-    refused-requires
+    refused-net-requires
     returns
     check-input-requires
     returns-2

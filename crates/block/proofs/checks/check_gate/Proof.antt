@@ -11,21 +11,21 @@ use Rattle.block.proofs.checks.check_gate.Statement.{statement}
 pin-count-right-requires : tie.Need-pin-count-right-requires
 pin-count-right-requires c κs = search needs
 
-refused-requires : tie.Need-refused-requires
-refused-requires c κs = search needs
+refused-net-requires : tie.Need-refused-net-requires
+refused-net-requires c κs = search needs
 
 returns : tie.Need-returns
 unfolding gateChecks
 returns c =
     let at6 = c .before in
     let fails6 = refuted (at6 .before .pin-count-right .ensures) (at6 .if1 .taken) in
-    fails _ _ _ fails6 (c .refused .ensures)
+    fails _ _ _ fails6 (c .refused-net .ensures)
 
 gate-spare-zero-requires : tie.Need-gate-spare-zero-requires
 gate-spare-zero-requires c κs = (search needs, pins-high _ _ (confirmed (c .before .pin-count-right .ensures) (c .if1 .left)))
 
-refused-requires-2 : tie.Need-refused-requires-2
-refused-requires-2 c κs = search needs
+refused-net-requires-2 : tie.Need-refused-net-requires-2
+refused-net-requires-2 c κs = search needs
 
 returns-2 : tie.Need-returns-2
 unfolding gateChecks
@@ -34,13 +34,13 @@ returns-2 c =
     let fails7 = refuted (at7 .before .gate-spare-zero .ensures) (at7 .if2 .taken) in
     let at6 = at7 .before .before in
     let passes6 = confirmed (at6 .before .pin-count-right .ensures) (at6 .if1 .left) in
-    passes _ _ _ passes6 (fails _ _ _ fails7 (c .refused2 .ensures))
+    passes _ _ _ passes6 (fails _ _ _ fails7 (c .refused-net2 .ensures))
 
 pins-below-requires : tie.Need-pins-below-requires
 pins-below-requires c κs = (search needs, pins-high _ _ (confirmed (c .before .before .before .pin-count-right .ensures) (c .before .before .if1 .left)))
 
-refused-requires-3 : tie.Need-refused-requires-3
-refused-requires-3 c κs = search needs
+refused-net-requires-3 : tie.Need-refused-net-requires-3
+refused-net-requires-3 c κs = search needs
 
 returns-3 : tie.Need-returns-3
 unfolding gateChecks
@@ -51,13 +51,13 @@ returns-3 c =
     let passes7 = confirmed (at7 .before .gate-spare-zero .ensures) (at7 .if2 .left) in
     let at6 = at7 .before .before in
     let passes6 = confirmed (at6 .before .pin-count-right .ensures) (at6 .if1 .left) in
-    passes _ _ _ passes6 (passes _ _ _ passes7 (fails _ _ _ fails8 (c .refused3 .ensures)))
+    passes _ _ _ passes6 (passes _ _ _ passes7 (fails _ _ _ fails8 (c .refused-net3 .ensures)))
 
 gate-in-range-requires : tie.Need-gate-in-range-requires
 gate-in-range-requires c κs = search needs
 
-refused-requires-4 : tie.Need-refused-requires-4
-refused-requires-4 c κs = search needs
+refused-net-requires-4 : tie.Need-refused-net-requires-4
+refused-net-requires-4 c κs = search needs
 
 returns-4 : tie.Need-returns-4
 unfolding gateChecks
@@ -70,7 +70,7 @@ returns-4 c =
     let passes7 = confirmed (at7 .before .gate-spare-zero .ensures) (at7 .if2 .left) in
     let at6 = at7 .before .before in
     let passes6 = confirmed (at6 .before .pin-count-right .ensures) (at6 .if1 .left) in
-    passes _ _ _ passes6 (passes _ _ _ passes7 (passes _ _ _ passes8 (fails _ _ _ fails9 (c .refused4 .ensures))))
+    passes _ _ _ passes6 (passes _ _ _ passes7 (passes _ _ _ passes8 (fails _ _ _ fails9 (c .refused-net4 .ensures))))
 
 returns-5 : tie.Need-returns-5
 unfolding gateChecks
@@ -90,15 +90,15 @@ check-gate-spec =
     tie.close
     (tie.spec
     pin-count-right-requires
-    refused-requires
+    refused-net-requires
     returns
     gate-spare-zero-requires
-    refused-requires-2
+    refused-net-requires-2
     returns-2
     pins-below-requires
-    refused-requires-3
+    refused-net-requires-3
     returns-3
     gate-in-range-requires
-    refused-requires-4
+    refused-net-requires-4
     returns-4
     returns-5)

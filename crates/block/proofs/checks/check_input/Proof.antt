@@ -9,25 +9,25 @@ use Rattle.block.proofs.Verdicts.{passes, fails, all-passed}
 use Rattle.block.proofs.checks.check_input.Tie as tie
 use Rattle.block.proofs.checks.check_input.Statement.{statement}
 
-refused-requires : tie.Need-refused-requires
-refused-requires c κs = search needs
+refused-net-requires : tie.Need-refused-net-requires
+refused-net-requires c κs = search needs
 
 returns : tie.Need-returns
 unfolding inputChecks inputInRange
-returns c = fails _ _ _ (after-gate _ _ _ (c .before .before .before .before .pre .1) (c .before .if1 .taken)) (c .refused .ensures)
+returns c = fails _ _ _ (after-gate _ _ _ (c .before .before .before .before .pre .1) (c .before .if1 .taken)) (c .refused-net .ensures)
 
-refused-requires-2 : tie.Need-refused-requires-2
-refused-requires-2 c κs = search needs
+refused-net-requires-2 : tie.Need-refused-net-requires-2
+refused-net-requires-2 c κs = search needs
 
 returns-2 : tie.Need-returns-2
 unfolding inputChecks inputInRange
-returns-2 c = fails _ _ _ (past-64 _ _ _ (c .before .before .before .before .before .pre .1) (c .before .if2 .taken)) (c .refused2 .ensures)
+returns-2 c = fails _ _ _ (past-64 _ _ _ (c .before .before .before .before .before .pre .1) (c .before .if2 .taken)) (c .refused-net2 .ensures)
 
 input-spare-zero-requires : tie.Need-input-spare-zero-requires
 input-spare-zero-requires c κs = search needs
 
-refused-requires-3 : tie.Need-refused-requires-3
-refused-requires-3 c κs = search needs
+refused-net-requires-3 : tie.Need-refused-net-requires-3
+refused-net-requires-3 c κs = search needs
 
 returns-3 : tie.Need-returns-3
 unfolding inputChecks inputInRange
@@ -36,7 +36,7 @@ returns-3 c =
     let fails7 = refuted (at7 .before .input-spare-zero .ensures) (at7 .if3 .taken) in
     let at5 = at7 .before .before in
     let passes5 = in-place _ _ _ (at5 .before .before .before .before .pre .1) (at5 .before .if1 .left) (at5 .if2 .left) in
-    passes _ _ _ passes5 (fails _ _ _ fails7 (c .refused3 .ensures))
+    passes _ _ _ passes5 (fails _ _ _ fails7 (c .refused-net3 .ensures))
 
 allowed-requires : tie.Need-allowed-requires
 allowed-requires c κs = search needs
@@ -44,8 +44,8 @@ allowed-requires c κs = search needs
 in-range-requires : tie.Need-in-range-requires
 in-range-requires c κs = search needs
 
-refused-requires-4 : tie.Need-refused-requires-4
-refused-requires-4 c κs = search needs
+refused-net-requires-4 : tie.Need-refused-net-requires-4
+refused-net-requires-4 c κs = search needs
 
 returns-4 : tie.Need-returns-4
 unfolding inputChecks inputInRange
@@ -56,7 +56,7 @@ returns-4 c =
     let passes7 = confirmed (at7 .before .input-spare-zero .ensures) (at7 .if3 .left) in
     let at5 = at7 .before .before in
     let passes5 = in-place _ _ _ (at5 .before .before .before .before .pre .1) (at5 .before .if1 .left) (at5 .if2 .left) in
-    passes _ _ _ passes5 (passes _ _ _ passes7 (fails _ _ _ fails9 (c .refused4 .ensures)))
+    passes _ _ _ passes5 (passes _ _ _ passes7 (fails _ _ _ fails9 (c .refused-net4 .ensures)))
 
 returns-5 : tie.Need-returns-5
 unfolding inputChecks inputInRange
@@ -73,15 +73,15 @@ pub check-input-spec : {M : Type 1} → statement M
 check-input-spec =
     tie.close
     (tie.spec
-    refused-requires
+    refused-net-requires
     returns
-    refused-requires-2
+    refused-net-requires-2
     returns-2
     input-spare-zero-requires
-    refused-requires-3
+    refused-net-requires-3
     returns-3
     allowed-requires
     in-range-requires
-    refused-requires-4
+    refused-net-requires-4
     returns-4
     returns-5)

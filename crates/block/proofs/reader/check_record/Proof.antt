@@ -28,8 +28,8 @@ enum-told c = search needs
 arrival-requires : tie.Need-arrival-requires
 arrival-requires c κs = (search needs, sym (c .before .before .before .check-fields .ensures) ∙ c .before .enum-told .given .1)
 
-refused-requires : tie.Need-refused-requires
-refused-requires c κs = search needs
+refused-net-requires : tie.Need-refused-net-requires
+refused-net-requires c κs = search needs
 
 returns-2 : tie.Need-returns-2
 returns-2 c =
@@ -38,9 +38,9 @@ returns-2 c =
     let a : c .before .before .arrival .result ≡ arrival (start .args .file .now) (start .args .net .0) =
     c .before .before .arrival .ensures ∙ ap (λ e. arrivalFrom (start .args .file .now) e (start .args .net .0)) (start .pre .1 .arrived) in
     record {
-      judged = c .refused .ensures ∙ sym (arrives-late _ _ passed (rw a at (c .before .if1 .taken)));
+      judged = c .refused-net .ensures ∙ sym (arrives-late _ _ passed (rw a at (c .before .if1 .taken)));
       sized = start .pre .1 .sized;
-      arrived = λ e. apart _ (sym (c .refused .ensures) ∙ e);
+      arrived = λ e. apart _ (sym (c .refused-net .ensures) ∙ e);
     }
 
 cast-arrivals : tie.Need-cast-arrivals
@@ -71,7 +71,7 @@ check-record-spec =
     returns
     enum-told
     arrival-requires
-    refused-requires
+    refused-net-requires
     returns-2
     cast-arrivals
     element-write-arrivals
