@@ -1,28 +1,28 @@
 -- What Envelope answers: the file is refused, another argument is refused, or the call is accepted.
 -- Assumes nothing.
 use Prim.Native.Nat.{ℕ, _*_, _≤_}
-use mathlib.Core.List.{List}
-use mathlib.Core.Path.{_≡_, refl, ap, _∙_}
+use mathlib.Core.List.{List, _++_}
+use mathlib.Core.Path.{_≡_, refl}
 use lib.Dec.{leb}
 use lib.ListN.{length}
 use borrow.Author.Tests.{eqb-true, leb-true}
 use Rattle.laws.proofs.Tests.{and-left}
-use Rattle.block.specs.Block.{quietTick}
-use Rattle.block.specs.Record.{File}
-use Rattle.block.specs.Refusals.{readOf, within}
-use Rattle.block.specs.Verdict.{verdict}
+use Rattle.block.specs.Block.{inputCount, quietTick}
+use Rattle.block.specs.Record.{File, netCount}
+use Rattle.block.specs.Refusals.{readChecks, readOf, within}
+use Rattle.block.specs.Verdict.{Check, verdict}
+use Rattle.block.specs.declared.ReadAnswer.{ReadAnswer}
 use Rattle.block.specs.declared.ReadAnswer.the-variants as read-answer
 use Rattle.block.specs.declared.Refusal.{Refusal}
 use Rattle.block.specs.declared.Verdict.{Verdict}
 use Rattle.block.specs.declared.Verdict.the-variants as verdict-is
-use Rattle.block.proofs.Accepted.{accepted}
 use Rattle.block.proofs.Verdicts.{passed}
 use Rattle.current.specs.Current.{dropOf}
 use Rattle.evaluation.specs.Arguments.{hopsRight}
 use Rattle.evaluation.specs.Operation.{answerAfter, sheetAfter, WorkAfter}
 use Rattle.evaluation.specs.declared.CurrentsAnswer.{CurrentsAnswer}
 use Rattle.evaluation.specs.declared.CurrentsAnswer.the-variants as answer
-use Rattle.evaluation.proofs.Operations.{after-refusal, after-counts}
+use Rattle.evaluation.proofs.Operations.{by-file, by-arguments}
 use Rattle.envelope.specs.Envelope.{argumentChecks, envelopeVerdict, frameSheet, Enveloped, FrameEvaluated}
 
 -- What accepted arguments are.
@@ -41,28 +41,28 @@ arguments-right nets hops table sheet work e =
     let d = passed 15 3 _ _ (c .1) in
     record { some-hops = leb-true _ _ (and-left (leb 1 hops) (leb hops 16) (a .0)); sheet-long = eqb-true _ _ (c .0); work-long = leb-true _ _ (d .0) }
 
-module _ (file : File) (hops : ℕ) (table sheet work : List ℕ) where
-  by-verdict : (v : Verdict) (r : CurrentsAnswer) (sheet′ work′ : List ℕ) → envelopeVerdict file hops table sheet work ≡ v
-      → r ≡ answerAfter v (dropOf table (frameSheet hops file)) (quietTick file) → sheet′ ≡ sheetAfter v (frameSheet hops file) sheet
-      → WorkAfter v work work′ → Enveloped file hops table sheet work r sheet′ work′
-  by-verdict v r sheet′ work′ e a s k = record { answered = rw e a; written = rw e s; kept = rw e k }
+module _ (file : File) (hops : ℕ) (table sheet work : List ℕ) {read : ReadAnswer} (is : read ≡ readOf file) where
+  abbrev checks : ℕ → ℕ → List Check
+  checks nets inputs = argumentChecks nets hops (length table) (length sheet) (length work)
 
-  pub file-refused : (r : Refusal) → readOf file ≡ read-answer.Refused r → Enveloped file hops table sheet work (answer.Refused r) sheet work
+  -- What Envelope promises, by the verdict.
+  abbrev Promised : CurrentsAnswer → List ℕ → List ℕ → Verdict → Type 0
+  Promised r sheet′ work′ v =
+      (r ≡ answerAfter v (dropOf table (frameSheet hops file)) (quietTick file)) × (sheet′ ≡ sheetAfter v (frameSheet hops file) sheet) × WorkAfter v work work′
+
+  enveloped : (r : CurrentsAnswer) (sheet′ work′ : List ℕ) → Promised r sheet′ work′ (verdict (readChecks file ++ checks (netCount file) (inputCount file)))
+      → Enveloped file hops table sheet work r sheet′ work′
   unfolding envelopeVerdict
-  file-refused r e = by-verdict (verdict-is.Refused r) _ _ _ (after-refusal file _ r e) refl refl refl
+  enveloped r sheet′ work′ p = record { answered = p .0; written = p .1; kept = p .2 }
 
-  module _ (nets inputs : ℕ) (counts : readOf file ≡ read-answer.Counts nets inputs) where
-    verdict-after : envelopeVerdict file hops table sheet work ≡ verdict (argumentChecks nets hops (length table) (length sheet) (length work))
-    unfolding envelopeVerdict
-    verdict-after =
-        after-counts file _ nets inputs counts
-        ∙ ap (λ n. verdict (argumentChecks n hops (length table) (length sheet) (length work))) (accepted file nets inputs counts .net-count)
+  pub file-refused : (r : Refusal) → read ≡ read-answer.Refused r → Enveloped file hops table sheet work (answer.Refused r) sheet work
+  file-refused r told = enveloped _ _ _ (by-file file checks (Promised _ _ _) is told (refl, refl, refl))
 
-    pub argument-refused : (r : Refusal) → verdict (argumentChecks nets hops (length table) (length sheet) (length work)) ≡ verdict-is.Refused r
-        → Enveloped file hops table sheet work (answer.Refused r) sheet work
-    argument-refused r e = by-verdict (verdict-is.Refused r) _ _ _ (verdict-after ∙ e) refl refl refl
+  module _ (nets inputs : ℕ) (told : read ≡ read-answer.Counts nets inputs) {v : Verdict} (checked : v ≡ verdict (checks nets inputs)) where
+    pub argument-refused : (r : Refusal) → v ≡ verdict-is.Refused r → Enveloped file hops table sheet work (answer.Refused r) sheet work
+    argument-refused r said = enveloped _ _ _ (by-arguments file checks (Promised _ _ _) is told checked said (refl, refl, refl))
 
-    pub call-accepted : (r : CurrentsAnswer) (sheet′ work′ : List ℕ)
-        → verdict (argumentChecks nets hops (length table) (length sheet) (length work)) ≡ verdict-is.Accepted → FrameEvaluated file hops table r sheet′
+    pub call-accepted : (r : CurrentsAnswer) (sheet′ work′ : List ℕ) → v ≡ verdict-is.Accepted → FrameEvaluated file hops table r sheet′
         → Enveloped file hops table sheet work r sheet′ work′
-    call-accepted r sheet′ work′ e f = by-verdict verdict-is.Accepted r sheet′ work′ (verdict-after ∙ e) (f .answered) (f .written) tt
+    call-accepted r sheet′ work′ said f =
+        enveloped _ _ _ (by-arguments file checks (Promised _ _ _) is told checked said (f .answered, f .written, tt))

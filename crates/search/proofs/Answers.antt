@@ -7,19 +7,20 @@ use native.Mathlib.Omega.{arith}
 use lib.ListN.{length}
 use Rattle.excitation.specs.Excitation.{patternOf}
 use Rattle.block.specs.Accepted.{AcceptedFile}
-use Rattle.block.specs.Record.{File}
-use Rattle.block.specs.Refusals.{readOf}
+use Rattle.block.specs.Block.{inputCount}
+use Rattle.block.specs.Record.{File, netCount}
+use Rattle.block.specs.Refusals.{readChecks, readOf}
 use Rattle.block.specs.Verdict.{Check, verdict}
+use Rattle.block.specs.declared.ReadAnswer.{ReadAnswer}
 use Rattle.block.specs.declared.ReadAnswer.the-variants as read-answer
 use Rattle.block.specs.declared.Refusal.{Refusal}
 use Rattle.block.specs.declared.Verdict.{Verdict}
 use Rattle.block.specs.declared.Verdict.the-variants as verdict-is
-use Rattle.block.proofs.Accepted.{accepted}
 use Rattle.current.specs.Current.{sheetWords}
 use Rattle.evaluation.specs.Operation.{bufferAfter, WorkAfter}
-use Rattle.evaluation.proofs.Operations.{after-refusal, after-counts}
+use Rattle.evaluation.proofs.Operations.{by-file, by-arguments}
 use Rattle.cases.specs.Records.{casesIn}
-use Rattle.cases.specs.Search.{searchFrom, search}
+use Rattle.cases.specs.Search.{SearchEnd, searchFrom, search}
 use Rattle.cases.specs.Store.{storeWith, patternWith}
 use Rattle.cases.proofs.Bytes.{store-is, pattern-is}
 use Rattle.cases.proofs.Records.{cases-long}
@@ -76,42 +77,40 @@ module _ {file : File} {nets inputs hops : ℕ} (accepted : AcceptedFile file ne
         ∙ ap (λ cases. storeWith cases store) (cases-held ∙ ap (λ f. f .state .cases) found-is);
   }
 
-module _ (file : File) (hops : ℕ) (table : List ℕ) (ratio budget : ℕ) (sheet pattern work store : List ℕ) where
-  by-verdict : (v : Verdict) (r : SearchAnswer) (sheet′ pattern′ work′ store′ : List ℕ)
-      → searchVerdict file hops table ratio budget sheet pattern work store ≡ v
-      → r ≡ searchAnswerAfter v (searchOf file hops table ratio budget)
-      → sheet′ ≡ bufferAfter v (sheetWords (sheetOver file hops (searchOf file hops table ratio budget .state .cases))) sheet
-      → pattern′ ≡ bufferAfter v (patternWith (searchOf file hops table ratio budget .state .best .pattern) pattern) pattern
-      → store′ ≡ bufferAfter v (storeWith (searchOf file hops table ratio budget .state .cases) store) store
-      → WorkAfter v work work′
+module _ (file : File) (hops : ℕ) (table : List ℕ) (ratio budget : ℕ) (sheet pattern work store : List ℕ) {read : ReadAnswer} (is : read ≡ readOf file) where
+  abbrev checks : ℕ → ℕ → List Check
+  checks nets inputs = limitChecks hops (length table) ratio budget ++ bufferChecks nets budget (length sheet) (length pattern) (length work) (length store)
+
+  abbrev found : SearchEnd
+  found = searchOf file hops table ratio budget
+
+  -- What Search promises, by the verdict.
+  abbrev Promised : SearchAnswer → List ℕ → List ℕ → List ℕ → List ℕ → Verdict → Type 0
+  Promised r sheet′ pattern′ work′ store′ v =
+      (r ≡ searchAnswerAfter v found)
+      × (sheet′ ≡ bufferAfter v (sheetWords (sheetOver file hops (found .state .cases))) sheet)
+      × (pattern′ ≡ bufferAfter v (patternWith (found .state .best .pattern) pattern) pattern)
+      × (store′ ≡ bufferAfter v (storeWith (found .state .cases) store) store)
+      × WorkAfter v work work′
+
+  searched : (r : SearchAnswer) (sheet′ pattern′ work′ store′ : List ℕ)
+      → Promised r sheet′ pattern′ work′ store′ (verdict (readChecks file ++ checks (netCount file) (inputCount file)))
       → Searched file hops table ratio budget sheet pattern work store r sheet′ pattern′ work′ store′
-  by-verdict v r sheet′ pattern′ work′ store′ e a s p t k =
-      record { answered = rw e a; sheet-written = rw e s; pattern-written = rw e p; store-written = rw e t; kept = rw e k }
-
-  pub file-refused : (r : Refusal) → readOf file ≡ read-answer.Refused r
-      → Searched file hops table ratio budget sheet pattern work store (answer.Refused r) sheet pattern work store
   unfolding searchVerdict
-  file-refused r e = by-verdict (verdict-is.Refused r) _ _ _ _ _ (after-refusal file _ r e) refl refl refl refl refl
+  searched r sheet′ pattern′ work′ store′ p = record { answered = p .0; sheet-written = p .1; pattern-written = p .2; store-written = p .3; kept = p .4 }
 
-  module _ (nets inputs : ℕ) (counts : readOf file ≡ read-answer.Counts nets inputs) where
-    abbrev checks : List Check
-    checks = limitChecks hops (length table) ratio budget ++ bufferChecks nets budget (length sheet) (length pattern) (length work) (length store)
+  pub file-refused : (r : Refusal) → read ≡ read-answer.Refused r
+      → Searched file hops table ratio budget sheet pattern work store (answer.Refused r) sheet pattern work store
+  file-refused r told = searched _ _ _ _ _ (by-file file checks (Promised _ _ _ _ _) is told (refl, refl, refl, refl, refl))
 
-    verdict-after : searchVerdict file hops table ratio budget sheet pattern work store ≡ verdict checks
-    unfolding searchVerdict
-    verdict-after =
-        after-counts file _ nets inputs counts
-        ∙ ap
-        (λ n. verdict (limitChecks hops (length table) ratio budget ++ bufferChecks n budget (length sheet) (length pattern) (length work) (length store)))
-        (accepted file nets inputs counts .net-count)
-
-    pub argument-refused : (r : Refusal) → verdict checks ≡ verdict-is.Refused r
+  module _ (nets inputs : ℕ) (told : read ≡ read-answer.Counts nets inputs) {v : Verdict} (checked : v ≡ verdict (checks nets inputs)) where
+    pub argument-refused : (r : Refusal) → v ≡ verdict-is.Refused r
         → Searched file hops table ratio budget sheet pattern work store (answer.Refused r) sheet pattern work store
-    argument-refused r e = by-verdict (verdict-is.Refused r) _ _ _ _ _ (verdict-after ∙ e) refl refl refl refl refl
+    argument-refused r said = searched _ _ _ _ _ (by-arguments file checks (Promised _ _ _ _ _) is told checked said (refl, refl, refl, refl, refl))
 
-    pub call-accepted : (r : SearchAnswer) (sheet′ pattern′ work′ store′ : List ℕ) → verdict checks ≡ verdict-is.Accepted
+    pub call-accepted : (r : SearchAnswer) (sheet′ pattern′ work′ store′ : List ℕ) → v ≡ verdict-is.Accepted
         → BlockSearched file hops table ratio budget pattern store r sheet′ pattern′ store′
         → Searched file hops table ratio budget sheet pattern work store r sheet′ pattern′ work′ store′
-    call-accepted r sheet′ pattern′ work′ store′ e b =
-        by-verdict verdict-is.Accepted r sheet′ pattern′ work′ store′ (verdict-after ∙ e) (b .answered) (b .sheet-written) (b .pattern-written)
-        (b .store-written) tt
+    call-accepted r sheet′ pattern′ work′ store′ said b =
+        searched _ _ _ _ _
+        (by-arguments file checks (Promised _ _ _ _ _) is told checked said (b .answered, b .sheet-written, b .pattern-written, b .store-written, tt))

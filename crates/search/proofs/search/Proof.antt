@@ -2,8 +2,8 @@
 -- Assumes nothing.
 use mathlib.Core.Path.{sym, _∙_}
 use borrow.Author.Needs.{needs}
-use Rattle.block.proofs.Accepted.{accepted}
 use Rattle.block.proofs.Verdicts.{both-accepted}
+use Rattle.evaluation.proofs.Operations.{file-accepted}
 use Rattle.search.proofs.Accepted.{limits-right, buffers-right}
 use Rattle.search.proofs.Answers.{file-refused, argument-refused, call-accepted}
 use Rattle.search.proofs.search.Statement.{statement}
@@ -19,7 +19,7 @@ enum-known-nets : tie.Need-enum-known-nets
 enum-known-nets c = search needs
 
 check-arguments-requires : tie.Need-check-arguments-requires
-check-arguments-requires c κs = accepted _ _ _ (sym (c .before .before .before .read .ensures) ∙ c .before .nets .given .1) .few-nets
+check-arguments-requires c κs = file-accepted (c .before .before .before .read .ensures) (c .before .nets .given .1) .few-nets
 
 enum-known-r-2 : tie.Need-enum-known-r-2
 enum-known-r-2 c = search needs
@@ -30,7 +30,7 @@ enum-told c = search needs
 search-block-requires : tie.Need-search-block-requires
 search-block-requires c κs =
     let told = c .before .before .before .before in
-    let file = accepted _ _ _ (sym (told .before .before .before .before .before .before .read .ensures) ∙ told .before .before .before .before .nets .given .1) in
+    let file = file-accepted (told .before .before .before .before .before .before .read .ensures) (told .before .before .before .before .nets .given .1) in
     let both = both-accepted _ _ (sym (told .before .before .check-arguments .ensures) ∙ told .enum-told .given .1) in
     let limits = limits-right _ _ _ _ (both .0) in
     let buffers = buffers-right _ _ _ _ _ _ (both .1) in (
@@ -47,12 +47,13 @@ search-block-requires c κs =
     )
 
 returns : tie.Need-returns
-returns c = file-refused _ _ _ _ _ _ _ _ _ _ (sym (c .before .before .before .read .ensures) ∙ c .before .r .given .1)
+returns c = file-refused _ _ _ _ _ _ _ _ _ (c .before .before .before .read .ensures) _ (c .before .r .given .1)
 
 returns-2 : tie.Need-returns-2
 returns-2 c =
     let told = c .before .before .before in
-    argument-refused _ _ _ _ _ _ _ _ _ _ _ (sym (told .before .before .before .before .read .ensures) ∙ told .before .before .nets .given .1) _ (sym (told .check-arguments .ensures) ∙ c .before .r2 .given .1)
+    argument-refused _ _ _ _ _ _ _ _ _ (told .before .before .before .before .read .ensures) _ _ (told .before .before .nets .given .1) (told .check-arguments .ensures) _
+    (c .before .r2 .given .1)
 
 same-length : tie.Need-same-length
 same-length c = search needs
@@ -69,7 +70,8 @@ same-length-4 c = search needs
 returns-3 : tie.Need-returns-3
 returns-3 c =
     let told = c .before .before .before .before .before .before .before .before .before .before .before .before .before in
-    call-accepted _ _ _ _ _ _ _ _ _ _ _ (sym (told .before .before .before .before .before .before .read .ensures) ∙ told .before .before .before .before .nets .given .1) _ _ _ _ _ (sym (told .before .before .check-arguments .ensures) ∙ told .enum-told .given .1) (c .before .before .before .before .before .before .before .before .search-block .ensures)
+    call-accepted _ _ _ _ _ _ _ _ _ (told .before .before .before .before .before .before .read .ensures) _ _ (told .before .before .before .before .nets .given .1)
+    (told .before .before .check-arguments .ensures) _ _ _ _ _ (told .enum-told .given .1) (c .before .before .before .before .before .before .before .before .search-block .ensures)
 
 pub search-spec : {M : Type 1} → statement M
 search-spec =
