@@ -60,7 +60,7 @@ module _ (inputs : ℕ) (codes : List ℕ) where
       (λ t. let m = ltb-true j inputs t in
       List·getD-append (map code sets) zeros 0 j (omega (arith, codes-long))
       ∙ map-at code sets j empty (omega (arith, sets-long inputs codes))
-      ∙ ap code (set-at inputs codes j m)
+      ∙ ap code (set-at inputs codes j empty m)
       ∙ code-decode (getD codes j 0) (omega (arith, coded .high j m)))
       (λ t. let m = ltb-false j inputs t in
       after-first (map code sets) zeros inputs j 0 codes-long m

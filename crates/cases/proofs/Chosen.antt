@@ -49,7 +49,7 @@ pub chosen-is : (inputs : ℕ) (codes cones : List ℕ) → firstGreatest inputs
 unfolding chosenInput rank
 chosen-is inputs codes cones =
     sym (ap (λ n. firstGreatest n (rank cones (setsIn inputs codes))) (sets-long inputs codes)
-    ∙ first-greatest-same inputs _ _ (λ net h. ap (λ s. rankOf s (getD cones net 0)) (set-at inputs codes net h)))
+    ∙ first-greatest-same inputs _ _ (λ net h. ap (λ s. rankOf s (getD cones net 0)) (set-at inputs codes net empty h)))
 
 -- The cones of a case's inputs alone choose the input.
 pub chosen-same : (cones others : List ℕ) (case : List UncertaintySet) → ((net : ℕ) → net < length case → getD cones net 0 ≡ getD others net 0)

@@ -48,7 +48,7 @@ pub decided-codes : (inputs : ℕ) (codes : List ℕ) → decided (setsIn inputs
 unfolding decided
 decided-codes inputs codes =
     ap (λ n. allBelow n (λ net. not (undecided (getD (setsIn inputs codes) net empty)))) (sets-long inputs codes)
-    ∙ all-same inputs _ _ (λ net h. ap (λ s. not (undecided s)) (set-at inputs codes net h))
+    ∙ all-same inputs _ _ (λ net h. ap (λ s. not (undecided s)) (set-at inputs codes net empty h))
 
 -- One undecided input is enough.
 pub decided-fails : (inputs : ℕ) (codes : List ℕ) (net : ℕ) {r : Bool} → net < inputs → r ≡ undecided (decode (getD codes net 0)) → r ≡ true

@@ -7,12 +7,12 @@ use native.Mathlib.Nat.{le-refl, mul-le-mul, mul-le-mul-left}
 use native.Mathlib.Omega.{arith}
 use lib.ListN.{length, getD, replicate}
 use Rattle.laws.specs.Below.{maxBelow, sumBelow}
+use Rattle.laws.proofs.Lists.{replicate-at}
 use Rattle.laws.proofs.Below.{max-next, max-same, max-at-most, max-within, max-beyond, sum-next, sum-same, sum-at-most, sum-within}
 use Rattle.current.specs.Current.{Sheet, dropAt, dropOf}
 use Rattle.current.specs.Drawing.{sheetIn, QuietFrom}
 use Rattle.current.specs.Sums.{withContact, Summed}
 use Rattle.current.specs.Words.{WordsWritten, wordOf}
-use Rattle.current.proofs.Words.{zeros-at}
 
 -- A greater sheet drops no less, and sheets that agree drop the same.
 
@@ -52,7 +52,7 @@ to-contact resistance words start {t = t} written e = rw (e, written .above t (l
 module _ {table words : List ℕ} {node busy : ℕ} where
   pub summed-none : {sums : List ℕ} → sums ≡ replicate 512 0 → Summed table words node busy 0 sums
   unfolding sumBelow
-  summed-none {sums} e = record { long = ap length e; at = λ t h. rw e (zeros-at 512 t) }
+  summed-none {sums} e = record { long = ap length e; at = λ t h. rw e (replicate-at 512 t 0) }
 
   module _ {n : ℕ} {sums : List ℕ} (summed : Summed table words node busy n sums) where
     pub summed-small : ((i : ℕ) → getD table i 0 < 65536) → ((i : ℕ) → getD words i 0 < 4294967296) → n ≤ 15

@@ -12,6 +12,7 @@ use lib.Dec.{eqb, ltb}
 use lib.ListN.{length, getD, replicate}
 use borrow.Author.Tests.{eqb-true, eqb-false, ltb-true, ltb-false}
 use borrow.Table.Steps.{cases}
+use Rattle.laws.proofs.Lists.{replicate-at}
 use Rattle.excitation.specs.Excitation.{hl, lh}
 use Rattle.block.specs.Accepted.{GateRecord}
 use Rattle.block.specs.Record.{File, contact, delay, rise, fall, peakLh, peakHl}
@@ -25,7 +26,6 @@ use Rattle.current.proofs.Bits.{both-bits, held-after, held-unseen}
 use Rattle.current.proofs.Edges.{held-tick, tick-held, held-at-most}
 use Rattle.current.proofs.Pulses.{pulse-at-most, pulse-quiet}
 use Rattle.current.proofs.Ticks.{greatest-within, greatest-covers, greatest-at-most}
-use Rattle.current.proofs.Words.{zeros-at}
 
 -- A gate draws nothing once the pulses of its last transition have ended.
 pub current-quiet : (file : File) (net : ℕ) (transitions : Transitions) (a t : ℕ) → ((x : ℕ) → List·Memᴰ x (transitions .rises) → x ≤ a)
@@ -73,7 +73,7 @@ module _ (file : File) (net : ℕ) {last seen P Q r f D : ℕ} {codes row after 
     (first : InRange P r f) (second : InRange Q r f) (p : P ≡ peakLh file net) (q : Q ≡ peakHl file net) (e : r ≡ rise file net)
     (d : f ≡ fall file net) (l : D ≡ delay file net) (zeros : row ≡ replicate 512 0) (drawn : EdgesDrawn P Q r f D 8 codes row after) where
   nothing : (t : ℕ) → getD row t 0 ≡ 0
-  nothing t = rw zeros (zeros-at 512 t)
+  nothing t = rw zeros (replicate-at 512 t 0)
 
   in-time : {bit : ℕ} → EdgeBit bit → (x : ℕ) → holdsEdge (edgeOf bit) codes x ≡ true → x < 256
   in-time edge x h =

@@ -5,18 +5,11 @@ use mathlib.Core.List.{List}
 use mathlib.Core.Path.{_≡_, refl, _∙_}
 use native.Mathlib.Omega.{arith}
 use lib.Dec.{eqb, ltb}
-use lib.ListN.{length, getD, set, replicate, length-set, length-replicate, getD-replicate, List·getD-eq-default}
+use lib.ListN.{length, getD, set, length-set, List·getD-eq-default}
 use lib.Seq.{getD-set-same, getD-set-other}
 use borrow.Author.Tests.{eqb-true, eqb-false, ltb-true, ltb-false}
 use borrow.Table.Steps.{cases}
 use Rattle.current.specs.Words.{WordsWritten, Cleared, noCurrent}
-
--- Words that are all 0.
-pub zeros-at : (n i : ℕ) → _≡_ {A = ℕ} (getD (replicate n 0) i 0) 0
-zeros-at n i =
-    cases (ltb i n)
-    (λ b. getD-replicate n i 0 0 (ltb-true i n b))
-    (λ b. List·getD-eq-default (replicate n 0) 0 (rw (length-replicate {A = ℕ} n 0) (ltb-false i n b)))
 
 pub written-none : (from to : ℕ) (value : ℕ → ℕ) (words : List ℕ) → to ≤ from → WordsWritten from to value words words
 written-none from to value words h =

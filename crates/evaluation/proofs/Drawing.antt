@@ -16,6 +16,7 @@ use Rattle.laws.proofs.Below.{max-same, sum-next, sum-within}
 use Rattle.laws.proofs.Turn.{turn-next, turn-is, list-at, list-long, list-next, list-same}
 use Rattle.excitation.specs.Excitation.{l, hl, lh}
 use Rattle.excitation.specs.UncertaintySet.{UncertaintySet, member, decode, empty, single, Held, setsIn}
+use Rattle.excitation.proofs.Codes.{set-at}
 use Rattle.block.specs.Accepted.{AcceptedFile, GateRecord}
 use Rattle.block.specs.Block.{latestPin, arrivalFrom, arrivals, arrival, switchingTick}
 use Rattle.block.specs.Record.{File, netCount, contact, delay, pinCount, pin, isInput}
@@ -118,18 +119,18 @@ module _ (file : File) (nets inputs : ℕ) (accepted : AcceptedFile file nets in
         unfolding setsOf decode
         set-in t = sym (List·getD-map decode codes t 0) ∙ ap (λ xs. getD xs t (decode 0)) (made .ticks)
 
-        set-at : (t : ℕ) → decode (getD codes t 0) ≡ getD (waveformOf file nets inputs accepted hops sets n .ticks) t empty
+        coded-at : (t : ℕ) → decode (getD codes t 0) ≡ getD (waveformOf file nets inputs accepted hops sets n .ticks) t empty
         unfolding waveformOf
-        set-at t = set-in t ∙ ap (λ w. getD (w .ticks) t empty) made-is
+        coded-at t = set-in t ∙ ap (λ w. getD (w .ticks) t empty) made-is
 
         settles : Settles (firstTick file n) (arrival file n) (waveformOf file nets inputs accepted hops sets n)
         settles = net-settles file nets inputs accepted hops sets n here
 
         early : (t : ℕ) → t < delay file n → Held (decode (getD codes t 0))
-        early t h = subst Held (sym (set-at t)) (settles .early t (rw (gate .gate) h))
+        early t h = subst Held (sym (coded-at t)) (settles .early t (rw (gate .gate) h))
 
         late : (t : ℕ) → arrival file n < t → Held (decode (getD codes t 0))
-        late t h = subst Held (sym (set-at t)) (settles .late t h)
+        late t h = subst Held (sym (coded-at t)) (settles .late t h)
 
         -- After the tick from which on its sets are the same it has the set of tick 255, past its arrival.
         last-set : (t : ℕ) → lastIn after n < t → t < 256 → decode (getD codes t 0) ≡ decode (getD codes 255 0)
@@ -201,10 +202,6 @@ module _ (file : File) (nets inputs : ℕ) (accepted : AcceptedFile file nets in
   abbrev sets : List UncertaintySet
   sets = setsIn inputs codes
 
-  input-set : (net : ℕ) (d : UncertaintySet) → net < inputs → getD sets net d ≡ decode (getD codes net 0)
-  unfolding setsIn
-  input-set net d h = list-at inputs (λ net. decode (getD codes net 0)) net d h
-
   inputs-quiet : (c t n : ℕ) → n ≤ inputs → sumBelow n (part file (transitionsFrom file hops sets) c t) ≡ 0
   inputs-quiet c t n h =
       let none = sum-within n (part file (transitionsFrom file hops sets) c t) 0
@@ -217,7 +214,7 @@ module _ (file : File) (nets inputs : ℕ) (accepted : AcceptedFile file nets in
   inputs-evaluated {given} {work} {words} made clear = record {
     waves = turn-is (netWaveform (envelope hops) file sets) inputs (waveformIn work 0) (listBelow inputs (waveformIn work)) (list-long inputs (waveformIn work))
         (λ net h. list-at inputs (waveformIn work) net _ h ∙ made .waveform net h hops
-        ∙ ap (inputWaveform (envelope hops) (switchingTick file net)) (sym (input-set net (single l) h))
+        ∙ ap (inputWaveform (envelope hops) (switchingTick file net)) (sym (set-at inputs codes net (single l) h))
         ∙ sym (net-input (envelope hops) file sets _ net (accepted .input net h .input)));
     times = turn-is (arrivalFrom file) inputs 0 (listBelow inputs (arrivalIn work)) (list-long inputs (arrivalIn work))
         (λ net h. list-at inputs (arrivalIn work) net 0 h ∙ made .arrives net h ∙ sym (input-arrives file (inTurn (arrivalFrom file) net) net (accepted .input net h .input)));

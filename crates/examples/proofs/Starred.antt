@@ -19,7 +19,7 @@ use Rattle.fill.proofs.Examples.{fill-examples}
 use Rattle.waveform.specs.Waveform.{earlier, inputWaveform, gateFrom, pinWaveform, gateAt, gateWaveform, netWaveform, waveforms}
 use Rattle.current.specs.Current.{ticksWhere, greatestAt, gateCurrent, drawsAt, part, contactCurrent, dropAt, dropOf, transitionsOf, sheetOf}
 use Rattle.current.specs.Examples.{tableF}
-use Rattle.current.specs.Pulse.{pulse, pulseAt}
+use Rattle.current.specs.Pulse.{levelAfter, pulse, pulseAt}
 use Rattle.current.proofs.Examples.{current-examples}
 use Rattle.cases.specs.declared.Outcome.the-variants.{Exact, Within, Spent}
 use Rattle.cases.specs.Case.{undecided, decided, firstAllowed, probe, takenOf, membersBelow, childrenBelow}
@@ -33,17 +33,17 @@ use Rattle.search.specs.declared.SearchAnswer.the-variants as answer
 
 block-F : (foundAnswer (searchOf blockF 10 tableF 1000 200) ≡ answer.Found Exact 55 55 0 1)
     × (searchOf blockF 10 tableF 1000 200 .state .best .pattern ≡ lh ∷ lh ∷ [])
-unfolding allBelow anyBelow maxBelow firstGreatest sumBelow countBelow inTurn listBelow excitationOf member decode joinSets each size isInput kindOf gateValue inputsBelow frame fedFrom coneSize extend runsFrom gapsAfter gaps shorter shortest close closeFirst closeShortest closeWhile merged inside holding ticksInside fillTicks setsHolding filled earlier inputWaveform gateFrom pinWaveform gateAt gateWaveform netWaveform waveforms pulse pulseAt ticksWhere greatestAt gateCurrent drawsAt part contactCurrent dropAt dropOf transitionsOf sheetOf undecided decided firstAllowed probe takenOf membersBelow childrenBelow coneSizes rankOf rank chosenInput upperAt setsAt greatestUpper nextSplit placed outcomeOf better bestOf firstBest madeUnder firstState nextChildren split outcomeAt searchFrom search searchOf foundAnswer
+unfolding allBelow anyBelow maxBelow firstGreatest sumBelow countBelow inTurn listBelow excitationOf member decode joinSets each size isInput kindOf gateValue inputsBelow frame fedFrom coneSize extend runsFrom gapsAfter gaps shorter shortest close closeFirst closeShortest closeWhile merged inside holding ticksInside fillTicks setsHolding filled earlier inputWaveform gateFrom pinWaveform gateAt gateWaveform netWaveform waveforms levelAfter pulse pulseAt ticksWhere greatestAt gateCurrent drawsAt part contactCurrent dropAt dropOf transitionsOf sheetOf undecided decided firstAllowed probe takenOf membersBelow childrenBelow coneSizes rankOf rank chosenInput upperAt setsAt greatestUpper nextSplit placed outcomeOf better bestOf firstBest madeUnder firstState nextChildren split outcomeAt searchFrom search searchOf foundAnswer
 block-F = (refl, refl)
 
 unsplit-S : (foundAnswer (searchOf blockS 10 tableS 1999 0) ≡ answer.Found Spent 20 10 0 1)
     × (foundAnswer (searchOf blockS 10 tableS 2000 0) ≡ answer.Found Within 20 10 0 1)
-unfolding allBelow anyBelow maxBelow firstGreatest sumBelow countBelow inTurn listBelow excitationOf member decode joinSets each size isInput kindOf gateValue inputsBelow frame fedFrom coneSize extend runsFrom gapsAfter gaps shorter shortest close closeFirst closeShortest closeWhile merged inside holding ticksInside fillTicks setsHolding filled earlier inputWaveform gateFrom pinWaveform gateAt gateWaveform netWaveform waveforms pulse pulseAt ticksWhere greatestAt gateCurrent drawsAt part contactCurrent dropAt dropOf transitionsOf sheetOf undecided decided firstAllowed probe takenOf membersBelow childrenBelow coneSizes rankOf rank chosenInput upperAt setsAt greatestUpper nextSplit placed outcomeOf better bestOf firstBest madeUnder firstState nextChildren split outcomeAt searchFrom search searchOf foundAnswer
+unfolding allBelow anyBelow maxBelow firstGreatest sumBelow countBelow inTurn listBelow excitationOf member decode joinSets each size isInput kindOf gateValue inputsBelow frame fedFrom coneSize extend runsFrom gapsAfter gaps shorter shortest close closeFirst closeShortest closeWhile merged inside holding ticksInside fillTicks setsHolding filled earlier inputWaveform gateFrom pinWaveform gateAt gateWaveform netWaveform waveforms levelAfter pulse pulseAt ticksWhere greatestAt gateCurrent drawsAt part contactCurrent dropAt dropOf transitionsOf sheetOf undecided decided firstAllowed probe takenOf membersBelow childrenBelow coneSizes rankOf rank chosenInput upperAt setsAt greatestUpper nextSplit placed outcomeOf better bestOf firstBest madeUnder firstState nextChildren split outcomeAt searchFrom search searchOf foundAnswer
 unsplit-S = (refl, refl)
 
 block-S : (foundAnswer (searchOf blockS 10 tableS 1000 200) ≡ answer.Found Exact 10 10 1 4)
     × (searchOf blockS 10 tableS 1000 200 .state .best .pattern ≡ lh ∷ [])
-unfolding allBelow anyBelow maxBelow firstGreatest sumBelow countBelow inTurn listBelow excitationOf member decode joinSets each size isInput kindOf gateValue inputsBelow frame fedFrom coneSize extend runsFrom gapsAfter gaps shorter shortest close closeFirst closeShortest closeWhile merged inside holding ticksInside fillTicks setsHolding filled earlier inputWaveform gateFrom pinWaveform gateAt gateWaveform netWaveform waveforms pulse pulseAt ticksWhere greatestAt gateCurrent drawsAt part contactCurrent dropAt dropOf transitionsOf sheetOf undecided decided firstAllowed probe takenOf membersBelow childrenBelow coneSizes rankOf rank chosenInput upperAt setsAt greatestUpper nextSplit placed outcomeOf better bestOf firstBest madeUnder firstState nextChildren split outcomeAt searchFrom search searchOf foundAnswer
+unfolding allBelow anyBelow maxBelow firstGreatest sumBelow countBelow inTurn listBelow excitationOf member decode joinSets each size isInput kindOf gateValue inputsBelow frame fedFrom coneSize extend runsFrom gapsAfter gaps shorter shortest close closeFirst closeShortest closeWhile merged inside holding ticksInside fillTicks setsHolding filled earlier inputWaveform gateFrom pinWaveform gateAt gateWaveform netWaveform waveforms levelAfter pulse pulseAt ticksWhere greatestAt gateCurrent drawsAt part contactCurrent dropAt dropOf transitionsOf sheetOf undecided decided firstAllowed probe takenOf membersBelow childrenBelow coneSizes rankOf rank chosenInput upperAt setsAt greatestUpper nextSplit placed outcomeOf better bestOf firstBest madeUnder firstState nextChildren split outcomeAt searchFrom search searchOf foundAnswer
 block-S = (refl, refl)
 
 search-examples : SearchExamples

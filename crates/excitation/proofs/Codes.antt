@@ -84,9 +84,9 @@ bits-small n h =
 
 -- The sets of the inputs: one for each, by the byte of that input alone.
 
-pub set-at : (inputs : ℕ) (codes : List ℕ) (net : ℕ) → net < inputs → getD (setsIn inputs codes) net empty ≡ decode (getD codes net 0)
+pub set-at : (inputs : ℕ) (codes : List ℕ) (net : ℕ) (d : UncertaintySet) → net < inputs → getD (setsIn inputs codes) net d ≡ decode (getD codes net 0)
 unfolding setsIn
-set-at inputs codes net h = list-at inputs (λ net. decode (getD codes net 0)) net empty h
+set-at inputs codes net d h = list-at inputs (λ net. decode (getD codes net 0)) net d h
 
 pub sets-long : (inputs : ℕ) (codes : List ℕ) → length (setsIn inputs codes) ≡ inputs
 unfolding setsIn

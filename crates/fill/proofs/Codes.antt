@@ -19,7 +19,7 @@ use Rattle.excitation.specs.UncertaintySet.{member, empty, single, code, decode
 use Rattle.excitation.specs.declared.Excitation.{Excitation}
 use Rattle.excitation.proofs.Finite.{for-each}
 use Rattle.excitation.proofs.Sets.{level-same}
-use Rattle.fill.specs.Codes.{setsOf, Codes, Settled}
+use Rattle.fill.specs.Codes.{setsOf, Codes, SettledFrom}
 use Rattle.fill.specs.Fill.{holding}
 use Rattle.fill.specs.Filling.{ticksOf, Added, runsOf}
 use Rattle.fill.specs.Runs.{Gap, gap, runsFrom, runs}
@@ -103,7 +103,7 @@ few-changes last [] same e = omega arith
 few-changes last (c ∷ later) same e = omega (arith, all-changes last (c ∷ later) same e, changes-few last c later)
 
 -- The codes of a gate, which are the same from tick `last` on.
-module _ (last : ℕ) (codes : List ℕ) (fine : Codes codes) (settled : Settled last codes) where
+module _ (last : ℕ) (codes : List ℕ) (fine : Codes codes) (settled : SettledFrom last codes) where
   within : last + 1 ≤ length codes
   within = omega (arith, fine .long, settled .in-time)
 

@@ -16,7 +16,7 @@ use Rattle.excitation.specs.UncertaintySet.{member, decode}
 use Rattle.excitation.specs.declared.Excitation.{Excitation}
 use Rattle.excitation.proofs.Finite.{for-each}
 use Rattle.excitation.proofs.Sets.{same-self}
-use Rattle.fill.specs.Codes.{setsOf, Codes, Settled, Filled}
+use Rattle.fill.specs.Codes.{setsOf, Codes, SettledFrom, Filled}
 use Rattle.fill.specs.Fill.{fillTicks}
 use Rattle.fill.specs.Filling.{ticksOf, Added, OneChanged, GapFilled, OneFilled, runsOf}
 use Rattle.fill.specs.Runs.{gap, merged, closeShortest, inside}
@@ -105,7 +105,7 @@ module _ (e : Excitation) (start size : ℕ) (given : List ℕ) (fine : Codes gi
   gap-fits = omega (arith, gap-before apart-given closing)
 
   -- It ends before the sets have settled: its last tick is not held, and the tick after it is.
-  gap-in-time : (last : ℕ) → Settled last given → start + size ≤ last
+  gap-in-time : (last : ℕ) → SettledFrom last given → start + size ≤ last
   gap-in-time last settled =
       cases (leb (start + size) last)
       (λ w. leb-true (start + size) last w)
@@ -121,7 +121,7 @@ module _ (e : Excitation) (start size : ℕ) (given : List ℕ) (fine : Codes gi
           false≢true (sym out ∙ steady t after (omega (arith, long)) ∙ sym (steady (suc t) (omega arith) (omega (arith, long))) ∙ held)
 
   module _ (after : List ℕ) (p : AddedFrom e start (start + size) given after) where
-    settled-after : (last : ℕ) → Settled last given → Settled last after
+    settled-after : (last : ℕ) → SettledFrom last given → SettledFrom last after
     settled-after last settled =
         let end = gap-in-time last settled in
         record {
@@ -138,7 +138,7 @@ module _ (e : Excitation) (start size : ℕ) (given : List ℕ) (fine : Codes gi
         ∙ ap (λ b. b || inGap start size t) (sym (inside-runs t (ticksOf e given)))
         ∙ sym (inside-closed t apart-given closing))
 
-    pub gap-filled : (last : ℕ) → Settled last given → GapFilled last e given after
+    pub gap-filled : (last : ℕ) → SettledFrom last given → GapFilled last e given after
     gap-filled last settled = record {
       only = record {
         codes = codes-after e start size given after p fine;
@@ -155,7 +155,7 @@ pub record Filling (hops last : ℕ) (e : Excitation) (given after : List ℕ) :
   pub only : OneChanged last e given after
   pub merge : merged hops (runsOf e after) ≡ merged hops (runsOf e given)
 
-pub filling-none : (hops last : ℕ) (e : Excitation) (codes : List ℕ) → Codes codes → Settled last codes → Filling hops last e codes codes
+pub filling-none : (hops last : ℕ) (e : Excitation) (codes : List ℕ) → Codes codes → SettledFrom last codes → Filling hops last e codes codes
 filling-none hops last e codes fine settled = record {
   only = record { codes = fine; settled = settled; others = λ f other. refl };
   merge = refl;

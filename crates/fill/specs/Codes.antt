@@ -16,7 +16,7 @@ pub record Codes (codes : List ℕ) : Type 0 where
   pub low : (t : ℕ) → getD codes t 0 < 16
 
 -- Codes that are the same from tick `last` on.
-pub record Settled (last : ℕ) (codes : List ℕ) : Type 0 where
+pub record SettledFrom (last : ℕ) (codes : List ℕ) : Type 0 where
   pub in-time : last < 256
   pub same : (t : ℕ) → last ≤ t → t < 256 → getD codes t 0 ≡ getD codes last 0
 

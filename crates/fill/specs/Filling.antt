@@ -7,7 +7,7 @@ use mathlib.Core.Path.{_≡_}
 use Rattle.excitation.specs.Excitation.{same}
 use Rattle.excitation.specs.UncertaintySet.{member, decode}
 use Rattle.excitation.specs.declared.Excitation.{Excitation}
-use Rattle.fill.specs.Codes.{setsOf, Codes, Settled}
+use Rattle.fill.specs.Codes.{setsOf, Codes, SettledFrom}
 use Rattle.fill.specs.Fill.{holding, fillTicks}
 use Rattle.fill.specs.Runs.{Run, runs, closeShortest}
 
@@ -27,7 +27,7 @@ pub record Added (e : Excitation) (given after : ℕ) : Type 0 where
 -- The codes after at most the ticks of one excitation changed. They are the same from tick `last` on, as they were before.
 pub record OneChanged (last : ℕ) (e : Excitation) (given after : List ℕ) : Type 0 where
   pub codes : Codes after
-  pub settled : Settled last after
+  pub settled : SettledFrom last after
   pub others : (f : Excitation) → same f e ≡ false → ticksOf f after ≡ ticksOf f given
 
 -- The codes after the shortest gap of an excitation was filled.

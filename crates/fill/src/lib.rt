@@ -8,7 +8,7 @@ ghost use lib.ListN.{length};
 ghost use Rattle.laws.specs.Below.{digit};
 ghost use Rattle.excitation.specs.declared.Excitation.{Excitation};
 ghost use Rattle.fill.specs.Scan.{scanned, gapOf, shortestGap};
-ghost use Rattle.fill.specs.Codes.{Codes, Settled, Filled};
+ghost use Rattle.fill.specs.Codes.{Codes, SettledFrom, Filled};
 ghost use Rattle.fill.specs.Filling.{runsOf, Added, GapFilled, OneFilled};
 use excitation::Excitation;
 use excitation::H;
@@ -38,7 +38,7 @@ fn begins(held: bool, before: bool) -> usize
 
 // How many runs an excitation has.
 fn count_runs(codes: &[u8], e: Excitation, last: usize) -> usize
-    requires { ⌜ Codes (now codes) × Settled last (now codes) ⌝ }
+    requires { ⌜ Codes (now codes) × SettledFrom last (now codes) ⌝ }
     ensures { λ r. ⌜ r ≡ length (runsOf e (now (codes .entry))) ⌝ }
 {
     let mut runs: usize = 0;
@@ -87,7 +87,7 @@ fn scan_tick(s: Scan, t: usize, held: bool) -> Scan
 
 // The shortest gap between the runs of an excitation, the earliest on a tie.
 fn shortest_gap(codes: &[u8], e: Excitation, last: usize) -> Scan
-    requires { ⌜ Codes (now codes) × Settled last (now codes) ⌝ }
+    requires { ⌜ Codes (now codes) × SettledFrom last (now codes) ⌝ }
     ensures { λ r. ⌜ gapOf r ≡ shortestGap (runsOf e (now (codes .entry))) ⌝ }
 {
     let mut scan = Scan {
@@ -107,7 +107,7 @@ fn shortest_gap(codes: &[u8], e: Excitation, last: usize) -> Scan
 
 // Fills the shortest gap between the runs of an excitation.
 fn fill_shortest(codes: &mut [u8], e: Excitation, last: usize)
-    requires { ⌜ Codes (now codes) × Settled last (now codes) × (2 ≤ length (runsOf e (now codes))) ⌝ }
+    requires { ⌜ Codes (now codes) × SettledFrom last (now codes) × (2 ≤ length (runsOf e (now codes))) ⌝ }
     ensures { λ _. ⌜ GapFilled last e (now (codes .entry)) (now (codes .exit)) ⌝ }
 {
     let shortest = shortest_gap(codes, e, last);
@@ -122,7 +122,7 @@ fn fill_shortest(codes: &mut [u8], e: Excitation, last: usize)
 
 // Fills an excitation: while its runs exceed the hop limit, the shortest gap.
 fn fill_excitation(codes: &mut [u8], e: Excitation, hops: usize, last: usize)
-    requires { ⌜ Codes (now codes) × Settled last (now codes) × (1 ≤ hops) ⌝ }
+    requires { ⌜ Codes (now codes) × SettledFrom last (now codes) × (1 ≤ hops) ⌝ }
     ensures { λ _. ⌜ OneFilled hops last e (now (codes .entry)) (now (codes .exit)) ⌝ }
 {
     let mut runs = count_runs(codes, e, last);
@@ -141,7 +141,7 @@ fn differ(first: u8, second: u8) -> u8
 
 // How often the sets change. Each run of an excitation but the first takes two changes.
 fn count_changes(codes: &[u8], last: usize) -> u8
-    requires { ⌜ Codes (now codes) × Settled last (now codes) ⌝ }
+    requires { ⌜ Codes (now codes) × SettledFrom last (now codes) ⌝ }
     ensures { λ r. ⌜ ((e : Excitation) → 2 * length (runsOf e (now (codes .entry))) ≤ r + 2) ⌝ }
 {
     let mut changes: u8 = 0;
@@ -156,7 +156,7 @@ fn count_changes(codes: &[u8], last: usize) -> u8
 // Fills the sets of a gate, which are the same from tick `last` on, to the hop limit. They change at most `last` times, so that
 // nothing has to be counted where `last` is small.
 pub fn fill(codes: &mut [u8], hops: usize, last: usize)
-    requires { ⌜ Codes (now codes) × (1 ≤ hops) × Settled last (now codes) ⌝ }
+    requires { ⌜ Codes (now codes) × (1 ≤ hops) × SettledFrom last (now codes) ⌝ }
     ensures { λ _. ⌜ Filled hops (now (codes .entry)) (now (codes .exit)) ⌝ }
 {
     if last / 2 < hops {

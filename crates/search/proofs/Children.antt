@@ -72,7 +72,7 @@ module _ (inputs : ℕ) (few : inputs ≤ 64) (parent : List ℕ) (long : length
       (length-set sets input one ∙ sets-long inputs parent)
       (of-each (λ net. net < inputs → getD (set sets input one) net empty ≡ decode (getD (childCodes parent input e) net 0)) input
       (λ h. getD-set-same sets input one empty (omega (arith, sets-long inputs parent)) ∙ sym (ap decode byte-here ∙ decode-code one))
-      (λ net d h. getD-set-other sets input net one empty d ∙ set-at inputs parent net h ∙ ap decode (sym (byte-other net d)))))
+      (λ net d h. getD-set-other sets input net one empty d ∙ set-at inputs parent net empty h ∙ ap decode (sym (byte-other net d)))))
 
 -- A child skipped, and a child made.
 

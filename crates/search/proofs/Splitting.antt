@@ -71,7 +71,7 @@ module _ {file : File} {inputs hops : ℕ} {table parent : List ℕ} {input k ca
 
   module _ (few : inputs ≤ 64) (long : length parent ≡ 64) (coded : SetCodes inputs parent) (chosen : input < inputs) where
     tested : {b : Bool} → member (excitationOf e) (decode (getD parent input 0)) ≡ b → member (excitationOf e) (getD case input empty) ≡ b
-    tested h = ap (member (excitationOf e)) (set-at inputs parent input chosen) ∙ h
+    tested h = ap (member (excitationOf e)) (set-at inputs parent input empty chosen) ∙ h
 
     skipped : member (excitationOf e) (decode (getD parent input 0)) ≡ false
         → Splitting file inputs hops table parent input k cap n goal store pattern (e + 1) count next goal′ store′ pattern′

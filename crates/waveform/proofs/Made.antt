@@ -19,7 +19,7 @@ use Rattle.laws.proofs.Turn.{list-at, list-is}
 use Rattle.excitation.specs.UncertaintySet.{UncertaintySet, code, decode, empty, heldBeforeSet, heldAfterSet}
 use Rattle.excitation.proofs.Codes.{decode-low, decode-code, code-below}
 use Rattle.block.specs.Record.{File, delay, pinCount, pin}
-use Rattle.fill.specs.Codes.{Codes, setsOf, Settled, Filled}
+use Rattle.fill.specs.Codes.{Codes, setsOf, SettledFrom, Filled}
 use Rattle.fill.specs.Fill.{filled}
 use Rattle.fill.proofs.Filled.{filled-settled}
 use Rattle.waveform.specs.Pins.{pinSample, NetSampled, Delayed}
@@ -67,7 +67,7 @@ same-earlier t codes low e s = record {
 }
 
 -- Codes that stay the same do so once they are filled.
-module _ (hops bound : ℕ) (raw codes : List ℕ) (long : length raw ≡ 256) (s : Settled (min (bound + 1) 255) raw) (f : Filled hops raw codes) where
+module _ (hops bound : ℕ) (raw codes : List ℕ) (long : length raw ≡ 256) (s : SettledFrom (min (bound + 1) 255) raw) (f : Filled hops raw codes) where
   abbrev start : ℕ
   start = min (bound + 1) 255
 

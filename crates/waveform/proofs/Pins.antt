@@ -25,7 +25,7 @@ use Rattle.block.specs.Accepted.{GateRecord}
 use Rattle.block.specs.declared.Gate.{Gate}
 use Rattle.block.specs.Record.{GateRead, pinOf, File, kind, pinCount, pin}
 use Rattle.block.specs.declared.kind.Rule.{Rule}
-use Rattle.fill.specs.Codes.{Codes, Settled}
+use Rattle.fill.specs.Codes.{Codes, SettledFrom}
 use Rattle.waveform.specs.Pins.{pinSample, joinedSample, ruledSample, gateSample, Sampled, RowJoined, PinsJoined, Inverted, GateSampled, NetSampled, Delayed}
 use Rattle.waveform.specs.Rows.{Unpacked, sampleIn}
 use Rattle.waveform.specs.Waveform.{envelope, gateFrom}
@@ -143,7 +143,7 @@ delayed-codes d last rule samples codes s e = record {
       (λ b. subst (λ x. x < 16) (sym (List·getD-eq-default codes 0 (omega (arith, ltb-false t 256 b, e .long)))) (omega arith));
 }
 
-pub delayed-settled : (d last : ℕ) (samples codes : List ℕ) → Delayed d last samples codes → Settled (min (last + d + 1) 255) codes
+pub delayed-settled : (d last : ℕ) (samples codes : List ℕ) → Delayed d last samples codes → SettledFrom (min (last + d + 1) 255) codes
 delayed-settled d last samples codes e = record {
   in-time = omega arith;
   same = λ t h q. cases (ltb (last + d) 255)

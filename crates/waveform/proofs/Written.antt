@@ -2,7 +2,7 @@
 -- Assumes nothing.
 use Prim.Native.Nat.{ℕ, _+_, _*_, _-_, _≤_, _<_}
 use mathlib.Core.List.{List}
-use mathlib.Core.Logic.{_⊎_, inl, inr, ⊎-elim}
+use mathlib.Core.Logic.{inl, inr, ⊎-elim}
 use mathlib.Core.Path.{_≡_, _∙_}
 use native.Mathlib.Omega.{arith}
 use lib.Dec.{ltb}
@@ -11,12 +11,9 @@ use lib.Seq.{getD-set-same, getD-set-other}
 use borrow.Author.Tests.{ltb-true, ltb-false}
 use borrow.Table.Steps.{cases}
 use Rattle.laws.specs.Rewritten.{Rewritten}
+use Rattle.laws.proofs.Numbers.{outside-record}
 use Rattle.fill.specs.Codes.{Codes}
 use Rattle.waveform.specs.Rows.{rowByte, codeIn, HasRow, RowWritten}
-
--- A place outside the row of a net lies before it or after it.
-outside : (net other k : ℕ) → (other ≡ net → ⊥) → k < 160 → (160 * other + k < 160 * net) ⊎ (160 * net + 160 ≤ 160 * other + k)
-outside net other k n h = cases (ltb other net) (λ s. inl (let q = ltb-true other net s in omega arith)) (λ s. inr (let q = ltb-false other net s in omega arith))
 
 module _ (net before arrival last : ℕ) (codes work packed : List ℕ) (coded : Codes codes)
     (p : Rewritten (λ k. getD codes k 0 + 16 * getD codes (k + 128) 0) (160 * net) 128 work packed) (room : HasRow work net) where
@@ -56,7 +53,7 @@ module _ (net before arrival last : ℕ) (codes work packed : List ℕ) (coded :
 
   kept : (other k : ℕ) → (other ≡ net → ⊥) → k < 160 → rowByte whole other k ≡ rowByte work other k
   kept other k n h =
-      let out = outside net other k n h in
+      let out = outside-record 160 net other k n h in
       elsewhere (160 * other + k) (λ z. ⊎-elim (λ l. omega arith) (λ l. omega arith) out) (λ z. ⊎-elim (λ l. omega arith) (λ l. omega arith) out)
       (λ z. ⊎-elim (λ l. omega arith) (λ l. omega arith) out)
       ∙ p .rest (160 * other + k) (⊎-elim (λ l. inl l) (λ l. inr (omega arith)) out)

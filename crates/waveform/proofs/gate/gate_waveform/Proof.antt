@@ -6,7 +6,7 @@ use native.Mathlib.Omega.{arith}
 use lib.ListN.{length-replicate}
 use borrow.Author.Needs.{needs}
 use Rattle.block.specs.Record.{delay}
-use Rattle.fill.specs.Codes.{Settled}
+use Rattle.fill.specs.Codes.{SettledFrom}
 use Rattle.waveform.specs.Pins.{NetSampled, Delayed}
 use Rattle.waveform.specs.Rows.{pinsLastIn}
 use Rattle.waveform.proofs.Made.{pins-soon, filled-same-after, gate-made}
@@ -62,7 +62,7 @@ fill-requires c κs =
     let late = c .before .before .before .before .delay .ensures in (
       delayed-codes d last _ samples codes (c .before .before .before .before .before .before .before .before .gate-samples .ensures) late,
       s .pre .2,
-      subst (λ t. Settled t codes) (sym (c .settled-from .ensures)) (delayed-settled d last samples codes late),
+      subst (λ t. SettledFrom t codes) (sym (c .settled-from .ensures)) (delayed-settled d last samples codes late),
     )
 
 last-change-requires : tie.Need-last-change-requires
