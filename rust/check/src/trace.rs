@@ -172,7 +172,7 @@ fn declarations(file: &Path, begin: &str) -> Vec<Code> {
         let (word, rest) = words.split_once(' ').unwrap_or((words, ""));
         let end = rest.find(|each: char| !each.is_alphanumeric() && each != '_');
         let mut name = &rest[..end.unwrap_or(rest.len())];
-        match word {
+        match word.split('<').next().unwrap_or(word) {
             "mod" | "impl" if line.ends_with('{') => {
                 scope = format!("{name}::");
                 name = "*";

@@ -57,8 +57,8 @@ const CITED: [Named; 18] = [
     },
     Named {
         module: "simulator.proofs.Patterns",
-        names: &["pattern-chosen"],
-        why: "The law that a pattern which refusal 16 lets pass is a choice of the frame.",
+        names: &["pattern-chosen", "bytes-pass"],
+        why: "The laws that refusal 16 lets pass just the choices of the frame.",
     },
     Named {
         module: "envelope.proofs.Soundness",
@@ -89,8 +89,8 @@ const CITED: [Named; 18] = [
     },
     Named {
         module: "evaluation.proofs.Operations",
-        names: &["after-refusal", "after-counts"],
-        why: "Laws of the verdict once Read has refused or accepted the file.",
+        names: &["by-file", "by-arguments", "file-accepted"],
+        why: "Laws of what is promised once Read has refused or accepted the file.",
     },
     Named {
         module: "evaluation.specs.declared.Currents",
@@ -129,8 +129,8 @@ const CITED: [Named; 18] = [
     },
     Named {
         module: "simulator::, current::",
-        names: &["evaluate_pattern", "clear"],
-        why: "The simulation of a pattern and the clearing of the sheet, called by contract.",
+        names: &["evaluate_pattern", "clear", "Word"],
+        why: "The simulation of a pattern and the clearing of the sheet, called by contract, and the type of its words.",
     },
 ];
 
@@ -172,7 +172,7 @@ const UNFOLDED: [Named; 5] = [
     },
     Named {
         module: "simulator.specs.Simulate",
-        names: &["byteAllowed", "bytesFrom", "sizeChecks", "simulateVerdict"],
+        names: &["byteAllowed", "sizeChecks", "simulateVerdict"],
         why: "Simulate's checks; none of them says what a simulation is.",
     },
     Named {
@@ -187,8 +187,8 @@ const UNFOLDED: [Named; 5] = [
     },
     Named {
         module: "excitation.specs.Excitation",
-        names: &["byteOf", "patternOf"],
-        why: "The excitations that the bytes of a pattern stand for.",
+        names: &["byteOf"],
+        why: "The byte of a pattern that stands for an excitation.",
     },
 ];
 
