@@ -10,8 +10,8 @@ use Rattle.block.specs.declared.Net.{Net}
 use Rattle.laws.specs.Below.{anyBelow, maxBelow}
 use Rattle.laws.proofs.Below.{any-same, max-same}
 use Rattle.block.specs.declared.Gate.{Gate}
-use Rattle.block.specs.Record.{File, HasRecord, GateRead, pinCount, pin, pinOf}
-use Rattle.block.specs.View.{InView}
+use Rattle.block.specs.Record.{File, HasRecord, pinCount, pin}
+use Rattle.block.specs.View.{GateRead, pinOf, InView}
 
 -- Four pins, each read by itself.
 pub pins-read : (pin : ℕ → ℕ) (a b c d : Net) → a .0 ≡ pin 0 → b .0 ≡ pin 1 → c .0 ≡ pin 2 → d .0 ≡ pin 3 → (p : ℕ) → p < 4

@@ -1,4 +1,5 @@
--- What is made of a block's records: arrivals, the frame, the fan-out cone of an input and the quiet tick.
+-- What is made of a block's records: arrivals and the frame (document 01, "The block file"), the fan-out cone of an input ("Search")
+-- and the quiet tick ("Envelope").
 use Prim.Native.Nat.{ℕ, _+_, _-_, _*_}
 use mathlib.Core.Bool.{Bool, false, cond, _||_}
 use mathlib.Core.List.{List, [], _∷_, Forall₂}

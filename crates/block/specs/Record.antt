@@ -4,8 +4,6 @@ use mathlib.Core.Bool.{Bool}
 use mathlib.Core.List.{List}
 use lib.Dec.{eqb}
 use lib.ListN.{length, getD}
-use mathlib.Core.Path.{_≡_}
-use Rattle.block.specs.declared.Gate.{Gate}
 
 -- A block file: the list of its bytes.
 abbrev pub File : Type 0
@@ -67,25 +65,3 @@ isInput file net = eqb (kind file net) 1
 pub record HasRecord (file : File) (net : ℕ) : Type 0 where
   pub whole : 20 * net + 20 ≤ length file
   pub numbered : net < 1024
-
--- The net of pin p of a gate, 0 to 3.
-abbrev pub pinOf : Gate → ℕ → ℕ
-pinOf gate p = getD (gate .pins) p (record { 0 = 0 }) .0
-
--- A gate that has the fields of a net's record.
-pub record GateRead (file : File) (net : ℕ) (gate : Gate) : Type 0 where
-  pub kind-is : gate .kind ≡ kind file net
-  pub contact-is : gate .contact ≡ contact file net
-  pub delay-is : gate .delay ≡ delay file net
-  pub used-is : gate .used ≡ pinCount file net
-  pub pin-is : (p : ℕ) → p < 4 → pinOf gate p ≡ pin file net p
-  pub rise-is : gate .rise ≡ rise file net
-  pub fall-is : gate .fall ≡ fall file net
-  pub peak-lh-is : gate .peaks .lh ≡ peakLh file net
-  pub peak-hl-is : gate .peaks .hl ≡ peakHl file net
-  pub contact-high : gate .contact < 256
-  pub delay-high : gate .delay < 256
-  pub rise-high : gate .rise < 256
-  pub fall-high : gate .fall < 256
-  pub peak-lh-high : gate .peaks .lh < 65536
-  pub peak-hl-high : gate .peaks .hl < 65536

@@ -2,7 +2,8 @@
 ghost use mathlib.Core.Path.{_≡_};
 ghost use Prim.Native.Nat.{_<_};
 ghost use Rattle.block.specs.Block.{switchingTick};
-ghost use Rattle.block.specs.Record.{HasRecord, byteAt, wordAt, kind, contact, delay, pinCount, pin, rise, fall, peakLh, peakHl, allowed, GateRead};
+ghost use Rattle.block.specs.Record.{HasRecord, byteAt, wordAt, kind, contact, delay, pinCount, pin, rise, fall, peakLh, peakHl, allowed};
+ghost use Rattle.block.specs.View.{GateRead};
 use super::Gate;
 use super::Net;
 use super::Peaks;

@@ -1,7 +1,7 @@
 // The block view: a checked block is read gate by gate, through the caller's own records.
 ghost use mathlib.Core.Path.{_≡_};
-ghost use Rattle.block.specs.Record.{HasRecord, GateRead};
-ghost use Rattle.block.specs.View.{InView};
+ghost use Rattle.block.specs.Record.{HasRecord};
+ghost use Rattle.block.specs.View.{GateRead, InView};
 use super::Gate;
 use super::Net;
 use super::record;

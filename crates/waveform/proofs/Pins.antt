@@ -23,7 +23,8 @@ use Rattle.block.specs.Kind.{kindOf, ruleOf}
 use Rattle.block.proofs.Views.{pin-read}
 use Rattle.block.specs.Accepted.{GateRecord}
 use Rattle.block.specs.declared.Gate.{Gate}
-use Rattle.block.specs.Record.{GateRead, pinOf, File, kind, pinCount, pin}
+use Rattle.block.specs.Record.{File, kind, pinCount, pin}
+use Rattle.block.specs.View.{GateRead, pinOf}
 use Rattle.block.specs.declared.kind.Rule.{Rule}
 use Rattle.fill.specs.Codes.{Codes, SettledFrom}
 use Rattle.waveform.specs.Pins.{pinSample, joinedSample, ruledSample, gateSample, Sampled, RowJoined, PinsJoined, Inverted, GateSampled, NetSampled, Delayed}

@@ -7,12 +7,13 @@ use native.Mathlib.Omega.{arith}
 use Rattle.laws.specs.Below.{maxBelow}
 use Rattle.block.specs.Accepted.{GateRecord}
 use Rattle.block.proofs.Views.{pin-read, max-read}
-use Rattle.block.specs.Record.{File, GateRead, pinCount, pin, pinOf}
+use Rattle.block.specs.Record.{File, pinCount, pin}
+use Rattle.block.specs.View.{GateRead, pinOf}
 use Rattle.block.specs.declared.Gate.{Gate}
 use Rattle.waveform.specs.Rows.{arrivalIn, lastIn, latestIn, pinsLastIn, HasRow, HasPinRows}
 
 -- A buffer with room for the row of a gate has room for those of its pins.
-pub pin-row : (file : File) (net : ℕ) (work : List ℕ) (p : ℕ) → GateRecord file net → HasRow work net → p < pinCount file net
+pin-row : (file : File) (net : ℕ) (work : List ℕ) (p : ℕ) → GateRecord file net → HasRow work net → p < pinCount file net
     → HasRow work (pin file net p)
 pin-row file net work p gate room h =
     let below = gate .pin-below p h in

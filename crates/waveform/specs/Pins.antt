@@ -9,7 +9,8 @@ use Rattle.excitation.specs.Excitation.{levelsOf}
 use Rattle.excitation.specs.UncertaintySet.{UncertaintySet, code, decode, joinSets, invertSet}
 use Rattle.excitation.specs.declared.Join.{Join}
 use Rattle.block.specs.Kind.{kindOf, ruleOf}
-use Rattle.block.specs.Record.{File, pin, pinOf}
+use Rattle.block.specs.Record.{File, pin}
+use Rattle.block.specs.View.{pinOf}
 use Rattle.block.specs.declared.Gate.{Gate}
 use Rattle.block.specs.declared.kind.Rule.{Rule}
 use Rattle.waveform.specs.Rows.{sampleIn}

@@ -9,7 +9,8 @@ use Rattle.laws.specs.Below.{maxBelow}
 use Rattle.laws.specs.Turn.{listBelow}
 use Rattle.excitation.specs.UncertaintySet.{UncertaintySet, decode, empty}
 use Rattle.block.specs.Accepted.{GateRecord}
-use Rattle.block.specs.Record.{File, HasRecord, delay, pinCount, pin, pinOf}
+use Rattle.block.specs.Record.{File, HasRecord, delay, pinCount, pin}
+use Rattle.block.specs.View.{pinOf}
 use Rattle.block.specs.declared.Gate.{Gate}
 use Rattle.fill.specs.Codes.{Codes, setsOf}
 use Rattle.waveform.specs.Waveform.{Waveform, envelope, gateWaveform, inputWaveform}

@@ -4,7 +4,7 @@ ghost use Prim.Native.Nat.{_+_, _≤_, _<_, min};
 ghost use lib.ListN.{length};
 ghost use Rattle.excitation.specs.Table.{joinTable};
 ghost use Rattle.laws.specs.Below.{maxBelow};
-ghost use Rattle.block.specs.Record.{pinOf};
+ghost use Rattle.block.specs.View.{pinOf};
 ghost use Rattle.waveform.specs.Rows.{HasPinRows, arrivalIn, lastIn, SameAfter, LastChange, Ready, GateMade};
 ghost use Rattle.waveform.specs.Pins.{PinsJoined, Inverted, GateSampled, Delayed};
 use super::join;

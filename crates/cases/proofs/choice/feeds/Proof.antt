@@ -12,7 +12,7 @@ use borrow.Author.Tests.{eq-eqb, ne-eqb}
 use Rattle.laws.specs.Below.{anyBelow}
 use Rattle.laws.proofs.Below.{any-next, any-found}
 use Rattle.laws.proofs.Tests.{or-first}
-use Rattle.block.specs.Record.{pinOf}
+use Rattle.block.specs.View.{pinOf}
 use Rattle.block.specs.Block.{fedFrom}
 use Rattle.block.proofs.Views.{pin-read, any-read}
 use Rattle.cases.proofs.choice.feeds.Statement.{statement}

@@ -4,7 +4,7 @@ use Prim.Native.Nat.{_-_, _≤_}
 use mathlib.Core.Path.{_≡_, sym, _∙_}
 use native.Mathlib.Omega.{arith}
 use borrow.Author.Needs.{needs}
-use Rattle.block.specs.Record.{pinOf}
+use Rattle.block.specs.View.{pinOf}
 use Rattle.waveform.specs.Pins.{joinedSample, Sampled}
 use Rattle.waveform.proofs.Pins.{first-joined, more-joined}
 use Rattle.waveform.proofs.gate.join_pins.Statement.{statement}

@@ -6,7 +6,7 @@ use native.Mathlib.Omega.{arith}
 use borrow.Author.Needs.{needs}
 use Rattle.laws.specs.Below.{maxBelow}
 use Rattle.laws.proofs.Below.{max-next}
-use Rattle.block.specs.Record.{pinOf}
+use Rattle.block.specs.View.{pinOf}
 use Rattle.waveform.specs.Rows.{arrivalIn, lastIn}
 use Rattle.waveform.proofs.gate.latest_pin.Statement.{statement}
 use Rattle.waveform.proofs.gate.latest_pin.Tie as tie

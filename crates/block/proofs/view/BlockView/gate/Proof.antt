@@ -42,8 +42,7 @@ use denote.Triple.Table.{entered, cited}
 use denote.Triple.Walked.{says, needs, Stays, stay-none, walkOf, goes-none, Walks, ends-at, walked, walk-meets}
 use denote.Exit.{yes}
 use denote.Triple.Clauses.{ensured, lasts}
-use Rattle.block.specs.Record.{GateRead}
-use Rattle.block.specs.View.{InView}
+use Rattle.block.specs.View.{GateRead, InView}
 use Rattle.block.specs.declared.Gate.{Gate}
 use Rattle.block.specs.declared.Net.{Net}
 use Rattle.block.specs.declared.view.BlockView.{BlockView}
