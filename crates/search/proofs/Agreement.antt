@@ -36,8 +36,9 @@ use Rattle.cases.proofs.Outcomes.{is-exact, is-within, is-spent, Says, says}
 use Rattle.cases.proofs.Right.{search-right, sheet-above}
 use Rattle.simulator.specs.Simulate.{bytesFrom, sizeChecks, simulateVerdict, patternSheet, Simulated}
 use Rattle.simulator.proofs.Patterns.{pattern-chosen}
+use Rattle.bounds.specs.Bounds.{simulatedDrop, envelopeDrop, sheetOver}
 use Rattle.search.specs.Agreement.{Agrees, Agreement}
-use Rattle.search.specs.Search.{simulatedDrop, envelopeDrop, chooseIn, searchOf, sheetOver, limitChecks, bufferChecks, searchVerdict, foundAnswer, searchAnswerAfter, Searched}
+use Rattle.search.specs.Search.{chooseIn, searchOf, limitChecks, bufferChecks, searchVerdict, foundAnswer, searchAnswerAfter, Searched}
 use Rattle.search.specs.declared.SearchAnswer.the-variants as answer
 use Rattle.search.proofs.Frame.{frame-probe, pattern-room, pattern-back, pattern-passes}
 

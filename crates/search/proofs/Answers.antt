@@ -24,7 +24,8 @@ use Rattle.cases.specs.Search.{SearchEnd, searchFrom, search}
 use Rattle.cases.specs.Store.{storeWith, patternWith}
 use Rattle.cases.proofs.Bytes.{store-is, pattern-is}
 use Rattle.cases.proofs.Records.{cases-long}
-use Rattle.search.specs.Search.{simulatedDrop, envelopeDrop, chooseIn, searchOf, sheetOver, limitChecks, bufferChecks, searchVerdict, foundAnswer, searchAnswerAfter, Searched}
+use Rattle.bounds.specs.Bounds.{simulatedDrop, envelopeDrop, sheetOver}
+use Rattle.search.specs.Search.{chooseIn, searchOf, limitChecks, bufferChecks, searchVerdict, foundAnswer, searchAnswerAfter, Searched}
 use Rattle.search.specs.Steps.{bestIn, stateIn, PastKept, FirstMade, Ran, BlockSearched}
 use Rattle.search.specs.declared.Ended.{Ended}
 use Rattle.search.specs.declared.SearchAnswer.{SearchAnswer}

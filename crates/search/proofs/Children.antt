@@ -23,7 +23,8 @@ use Rattle.excitation.proofs.Finite.{for-each}
 use Rattle.block.specs.Record.{File}
 use Rattle.cases.specs.Case.{Case, membersBelow, childrenBelow}
 use Rattle.cases.specs.Records.{SetCodes}
-use Rattle.search.specs.Steps.{CaseMade, ChildMade, childCodes}
+use Rattle.bounds.specs.Bounds.{CaseMade}
+use Rattle.search.specs.Steps.{ChildMade, childCodes}
 use Rattle.search.specs.declared.Step.{Step}
 
 single-low : (x : Excitation) → 1 ≤ code (single x)

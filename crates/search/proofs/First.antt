@@ -21,8 +21,8 @@ use Rattle.cases.specs.Search.{StoredCase, Best, State, firstBest, firstState}
 use Rattle.cases.specs.Store.{patternByte}
 use Rattle.cases.proofs.Codes.{probe-low, probe-read}
 use Rattle.cases.proofs.Records.{caseOf, cases-appended, has-appended}
-use Rattle.search.specs.Search.{simulatedDrop, envelopeDrop}
-use Rattle.search.specs.Steps.{ownUpper, CaseMade, bestIn, stateIn, Running, PastKept, FirstMade}
+use Rattle.bounds.specs.Bounds.{simulatedDrop, envelopeDrop, ownUpper, CaseMade}
+use Rattle.search.specs.Steps.{bestIn, stateIn, Running, PastKept, FirstMade}
 
 -- The frame's codes are those of sets that are not empty, and their sets are the frame.
 module _ {file : File} {nets inputs : ℕ} (accepted : AcceptedFile file nets inputs) {codes : List ℕ}

@@ -1,12 +1,10 @@
 pub mod Accepted
-pub mod Making
 pub mod Children
 pub mod Stored
 pub mod Places
 pub mod Splitting
 pub mod First
 pub mod Running
-pub mod Sheets
 pub mod Answers
 pub mod Frame
 pub mod Agreement

@@ -14,7 +14,8 @@ use Rattle.cases.specs.declared.Outcome.{Outcome}
 use Rattle.cases.specs.declared.Outcome.the-variants.{Exact, Within, Spent}
 use Rattle.cases.proofs.Records.{next-split, greatest-upper}
 use Rattle.cases.proofs.Outcomes.{stop-exact, stop-within, stop-spent, goes-on}
-use Rattle.search.specs.Search.{simulatedDrop, envelopeDrop, chooseIn}
+use Rattle.bounds.specs.Bounds.{simulatedDrop, envelopeDrop}
+use Rattle.search.specs.Search.{chooseIn}
 use Rattle.search.specs.Steps.{Running, PastKept, CaseToSplit, CaseSplit, Ran, bestIn, stateIn}
 use Rattle.search.specs.declared.Ended.{Ended}
 

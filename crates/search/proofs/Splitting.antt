@@ -20,8 +20,9 @@ use Rattle.cases.specs.Records.{casesIn, HasCase, SetCodes}
 use Rattle.cases.specs.Search.{setsAt, greatestUpper, nextSplit, placed, bestOf, madeUnder, nextChildren, split}
 use Rattle.cases.proofs.Codes.{probe-read}
 use Rattle.cases.proofs.Records.{caseOf, sets-copied, sets-at}
-use Rattle.search.specs.Search.{simulatedDrop, envelopeDrop, chooseIn}
-use Rattle.search.specs.Steps.{CaseMade, ChildMade, Running, Cones, CaseToSplit, CaseSplit, ownUpper, bestIn, stateIn, childCodes}
+use Rattle.bounds.specs.Bounds.{simulatedDrop, envelopeDrop, CaseMade, ownUpper}
+use Rattle.search.specs.Search.{chooseIn}
+use Rattle.search.specs.Steps.{ChildMade, Running, Cones, CaseToSplit, CaseSplit, bestIn, stateIn, childCodes}
 use Rattle.search.specs.declared.Step.{Step}
 use Rattle.search.proofs.Children.{child-coded, child-sets, children-more, children-same}
 use Rattle.search.proofs.Stored.{CasesStored, BestStored, best-more, best-next}

@@ -3,7 +3,6 @@ use Prim.Native.Nat.{ℕ}
 use mathlib.Core.List.{List, [], _∷_, _++_}
 use mathlib.Core.Path.{_≡_}
 use lib.ListN.{length}
-use Rattle.excitation.specs.declared.Excitation.{Excitation}
 use Rattle.block.specs.Block.{frame}
 use Rattle.block.specs.Numbers.{refusalNumbers}
 use Rattle.block.specs.Record.{File, netCount}
@@ -11,26 +10,20 @@ use Rattle.block.specs.Refusals.{readChecks}
 use Rattle.block.specs.Verdict.{Check, verdict}
 use Rattle.block.specs.declared.Verdict.{Verdict}
 use Rattle.block.specs.declared.Verdict.the-variants as verdict-is
-use Rattle.current.specs.Current.{Sheet, sheetWords, dropOf}
+use Rattle.current.specs.Current.{sheetWords}
 use Rattle.evaluation.specs.Arguments.{hopsCheck, tableCheck, ratioCheck, budgetCheck, sheetCheck, patternCheck, workCheck, storeCheck}
-use Rattle.evaluation.specs.Evaluation.{simulatedSheet, envelopeSheet}
 use Rattle.evaluation.specs.Operation.{bufferAfter, WorkAfter}
 use Rattle.cases.specs.Case.{Case}
 use Rattle.cases.specs.Choice.{coneSizes, chosenInput}
-use Rattle.cases.specs.Search.{SearchEnd, StoredCase, greatestUpper, search, casesSheet}
+use Rattle.cases.specs.Search.{SearchEnd, greatestUpper, search}
 use Rattle.cases.specs.Store.{storeWith, patternWith}
 use Rattle.cases.specs.declared.Outcome.{Outcome}
 use Rattle.cases.specs.declared.Outcome.the-variants as outcome
+use Rattle.bounds.specs.Bounds.{simulatedDrop, envelopeDrop, sheetOver}
 use Rattle.search.specs.declared.SearchAnswer.{SearchAnswer}
 use Rattle.search.specs.declared.SearchAnswer.the-variants as answer
 
--- What the search rests on: the drop of a pattern's simulation, the drop of a case's envelope, and the choice of the input to split.
-abbrev pub simulatedDrop : File → List ℕ → List Excitation → ℕ
-simulatedDrop file table pattern = dropOf table (simulatedSheet file pattern)
-
-abbrev pub envelopeDrop : File → ℕ → List ℕ → Case → ℕ
-envelopeDrop file hops table case = dropOf table (envelopeSheet hops file case)
-
+-- The choice of the input to split, by the cones of the block.
 abbrev pub chooseIn : File → Case → ℕ
 chooseIn file = chosenInput (coneSizes file)
 
@@ -38,10 +31,6 @@ chooseIn file = chosenInput (coneSizes file)
 unfoldable pub searchOf : File → ℕ → List ℕ → ℕ → ℕ → SearchEnd
 searchOf file hops table ratio budget =
     search (simulatedDrop file table) (envelopeDrop file hops table) (chooseIn file) ratio budget (frame file)
-
--- The sheet over some cases, decided ones simulated.
-abbrev pub sheetOver : File → ℕ → List StoredCase → Sheet
-sheetOver file hops = casesSheet (simulatedSheet file) (envelopeSheet hops file)
 
 -- The checks of the arguments that Search has beside the file: hop limit, length of the table, ratio and budget; then, with the count of
 -- nets and the budget, the lengths of sheet, pattern, work buffer and case store.

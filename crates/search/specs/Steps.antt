@@ -1,55 +1,24 @@
 -- What the functions of the search ask and promise (for document 01, "Search"), step by step: a case made, a case split, the whole run,
 -- the sheet.
-use Prim.Native.Nat.{ℕ, _+_, _*_, _-_, _≤_, _<_, _^_, min, max}
+use Prim.Native.Nat.{ℕ, _+_, _*_, _-_, _≤_, _<_, _^_, max}
 use mathlib.Core.Bool.{true, false}
 use mathlib.Core.List.{List}
 use mathlib.Core.Path.{_≡_}
 use lib.ListN.{length, getD, set}
-use Rattle.laws.specs.Rewritten.{Rewritten}
 use Rattle.excitation.specs.Excitation.{excitationOf, patternOf}
-use Rattle.excitation.specs.UncertaintySet.{member, code, decode, single, setsIn}
-use Rattle.block.specs.Accepted.{AcceptedFile}
+use Rattle.excitation.specs.UncertaintySet.{member, code, decode, single}
 use Rattle.block.specs.Block.{frame, coneSize}
 use Rattle.block.specs.Record.{File}
 use Rattle.current.specs.Current.{sheetWords}
-use Rattle.evaluation.specs.Evaluation.{HasRows}
-use Rattle.cases.specs.Case.{Case, probe, takenOf}
-use Rattle.cases.specs.Records.{casesIn, HasCases, recordByte}
+use Rattle.cases.specs.Records.{casesIn, HasCases}
 use Rattle.cases.specs.Search.{Best, State, SearchEnd, greatestUpper, firstState, nextSplit, split, searchFrom}
-use Rattle.cases.specs.Store.{patternByte, storeWith, patternWith}
+use Rattle.cases.specs.Store.{storeWith, patternWith}
 use Rattle.cases.specs.declared.Outcome.{Outcome}
-use Rattle.search.specs.Search.{simulatedDrop, envelopeDrop, chooseIn, searchOf, sheetOver, foundAnswer}
+use Rattle.bounds.specs.Bounds.{simulatedDrop, envelopeDrop, sheetOver, CaseMade}
+use Rattle.search.specs.Search.{chooseIn, searchOf, foundAnswer}
 use Rattle.search.specs.declared.Ended.{Ended}
 use Rattle.search.specs.declared.SearchAnswer.{SearchAnswer}
 use Rattle.search.specs.declared.Step.{Step}
-
--- What an evaluation in a search is given beside the case: an accepted file, a hop limit, a sheet and a work buffer.
-pub record Searchable (file : File) (nets inputs hops : ℕ) (sheet work : List ℕ) : Type 0 where
-  pub accepted : AcceptedFile file nets inputs
-  pub some-hops : 1 ≤ hops
-  pub sheet-long : length sheet ≡ 8192
-  pub rows : HasRows work nets
-
--- The upper number of a case before the cap.
-unfoldable pub ownUpper : File → ℕ → List ℕ → Case → ℕ
-ownUpper file hops table = takenOf (simulatedDrop file table) (envelopeDrop file hops table)
-
--- The drop of a case's probe, and the probe.
-pub record Probed (file : File) (inputs : ℕ) (table codes given : List ℕ) (drop : ℕ) (after : List ℕ) : Type 0 where
-  pub is : drop ≡ simulatedDrop file table (probe (setsIn inputs codes))
-  pub low : drop < 2 ^ 46
-  pub written : Rewritten (patternByte (probe (setsIn inputs codes))) 0 inputs given after
-
--- A case made: its record, and the best probe. A probe is the best so far where its drop reaches the goal, which is 0 before the first
--- case and L + 1 afterwards.
-pub record CaseMade (file : File) (inputs hops : ℕ) (table codes : List ℕ) (cap goal at : ℕ) (store pattern : List ℕ)
-    (goal′ : ℕ) (store′ pattern′ : List ℕ) : Type 0 where
-  pub stored : Rewritten (recordByte codes (min cap (ownUpper file hops table (setsIn inputs codes)))) (72 * at) 72 store store′
-  pub upper-low : ownUpper file hops table (setsIn inputs codes) < 2 ^ 46
-  pub drop-low : simulatedDrop file table (probe (setsIn inputs codes)) < 2 ^ 46
-  pub kept : simulatedDrop file table (probe (setsIn inputs codes)) < goal → (goal′ ≡ goal) × (pattern′ ≡ pattern)
-  pub reached : goal ≤ simulatedDrop file table (probe (setsIn inputs codes))
-      → (goal′ ≡ simulatedDrop file table (probe (setsIn inputs codes)) + 1) × Rewritten (patternByte (probe (setsIn inputs codes))) 0 inputs pattern pattern′
 
 -- The state of a search, as its buffers have it.
 unfoldable pub bestIn : ℕ → ℕ → List ℕ → Best

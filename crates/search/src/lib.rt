@@ -3,27 +3,22 @@ ghost use mathlib.Core.Path.{_≡_};
 ghost use Prim.Native.Nat.{_+_, _*_, _≤_};
 ghost use lib.ListN.{length};
 ghost use Rattle.search.specs.Search.{Searched};
-ghost use Rattle.search.specs.Steps.{Searchable, BlockSearched};
+ghost use Rattle.bounds.specs.Bounds.{Searchable};
+ghost use Rattle.search.specs.Steps.{FirstMade, BlockSearched};
 use block::ReadAnswer;
 use block::Refusal;
 use block::Verdict;
+use bounds::Setting;
+use bounds::make;
+use bounds::sheet;
 use cases::CaseNumber;
 use cases::Outcome;
 use cases::choice;
 use current::Word;
 
 mod arguments;
-mod make;
 mod run;
-mod sheet;
 mod split;
-
-// The counts of a block and the hop limit, which every evaluation in a search takes.
-struct Setting {
-    nets: usize,
-    inputs: usize,
-    hops: usize,
-}
 
 // Where a split stands: how many cases there are, the place of the next child, and the drop that makes a probe the best.
 struct Step {
@@ -53,6 +48,39 @@ pub enum SearchAnswer {
     Refused(Refusal),
 }
 
+// Above every upper number: the cap of the first case, which has no parent.
+const NO_CAP: u64 = 18446744073709551615;
+
+// Makes the first case, the whole frame. Returns the drop that the next probe has to reach.
+fn make_first(
+    file: &[u8],
+    setting: Setting,
+    table: &[u16],
+    sheet: &mut [Word],
+    pattern: &mut [u8],
+    work: &mut [u8],
+    store: &mut [u8],
+) -> u64
+    requires { ⌜ Searchable (now file) (setting .nets) (setting .inputs) (setting .hops) (now sheet) (now work) × (length (now pattern) ≡ 64) × (72 ≤ length (now store)) ⌝ }
+    ensures { λ r. ⌜ FirstMade (now (file .entry)) (setting .inputs) (setting .hops) (now (table .entry)) (now (store .entry)) (now (pattern .entry)) r (now (store .exit)) (now (pattern .exit)) ⌝ }
+{
+    let mut codes = [0u8; 64];
+    block::frame_codes(file, setting.inputs, &mut codes);
+    make::make_case(
+        file,
+        setting,
+        table,
+        &codes,
+        NO_CAP,
+        0,
+        CaseNumber(0),
+        sheet,
+        pattern,
+        work,
+        store,
+    )
+}
+
 // Searches an accepted file, with arguments that passed.
 fn search_block(
     file: &[u8],
@@ -68,7 +96,7 @@ fn search_block(
     requires { ⌜ Searchable (now file) (setting .nets) (setting .inputs) (setting .hops) (now sheet) (now work) × (length (now pattern) ≡ 64) × (ratio ≤ 10000) × (budget ≤ 10000) × (72 * (1 + 3 * budget) ≤ length (now store)) ⌝ }
     ensures { λ r. ⌜ BlockSearched (now (file .entry)) (setting .hops) (now (table .entry)) ratio budget (now (pattern .entry)) (now (store .entry)) r (now (sheet .exit)) (now (pattern .exit)) (now (store .exit)) ⌝ }
 {
-    let goal = make::make_first(file, setting, table, sheet, pattern, work, store);
+    let goal = make_first(file, setting, table, sheet, pattern, work, store);
     let mut cones = [0u16; 64];
     choice::write_cones(file, setting.nets, setting.inputs, &mut cones);
     let ended = run::run(

@@ -2,10 +2,11 @@
 ghost use mathlib.Core.Path.{_≡_};
 ghost use Prim.Native.Nat.{_+_, _*_, _≤_, _<_};
 ghost use lib.ListN.{length};
-ghost use Rattle.search.specs.Steps.{Searchable, Running, Cones, stateIn, endedAt, Ran};
+ghost use Rattle.bounds.specs.Bounds.{Searchable};
+ghost use Rattle.search.specs.Steps.{Running, Cones, stateIn, endedAt, Ran};
 use super::Ended;
-use super::Setting;
 use super::split;
+use bounds::Setting;
 use cases::Outcome;
 use cases::store;
 use current::Word;

@@ -1,5 +1,6 @@
 //! "The search rests on the envelope's promise and on nothing inside it": what the crates name of each
-//! other, and what the proofs of `search` open, read from the text of the crates.
+//! other, and what the proofs of the search, in `bounds` and `search`, open, read from the text of the
+//! crates.
 //!
 //! A definition of another module is shut unless a proof names it on an `unfolding` line or in
 //! `unfold .. in`; only an `abbrev` opens by itself. So all that the search can see of the crates below
@@ -10,6 +11,9 @@ use std::collections::{BTreeMap, BTreeSet};
 use std::path::Path;
 
 use check::repository::{declares, files, text};
+
+/// The crates of the search above `cases`.
+const SEARCH: [&str; 2] = ["bounds", "search"];
 
 /// The crates inside which the search may not look.
 const INSIDE: [&str; 6] = [
@@ -28,7 +32,7 @@ struct Named {
     why: &'static str,
 }
 
-/// All that `search` cites of the crates inside which it may not look.
+/// All that the search cites of the crates inside which it may not look.
 const CITED: [Named; 18] = [
     Named {
         module: "evaluation.specs.Evaluation",
@@ -163,7 +167,7 @@ const ABBREVIATIONS: [(&[&str], &str); 4] = [
     ),
 ];
 
-/// All that `search` unfolds, in its proofs and anywhere, of crates other than `search`, `cases` and `laws`.
+/// All that the search unfolds, in its proofs and anywhere, of crates other than its own, `cases` and `laws`.
 const UNFOLDED: [Named; 5] = [
     Named {
         module: "evaluation.specs.Arguments",
@@ -291,7 +295,7 @@ fn origin(name: &str, text: &str, cited: &BTreeSet<(String, String)>) -> Option<
     }
     let from = cited.iter().find(|(_, cited)| cited == name);
     let defined = code.lines().any(|line| declares(line, name));
-    let own = defined.then(|| "search".to_string());
+    let own = defined.then(|| SEARCH[0].to_string());
     from.map(|(module, _)| module.clone()).or(own)
 }
 
@@ -304,7 +308,7 @@ fn opened(text: &str) -> Vec<(String, String)> {
         let module = origin(&name, text, &cited).unwrap_or_else(|| "unknown".to_string());
         let name = name.rsplit('.').next().unwrap_or(&name).to_string();
         let owner = module.split('.').next().unwrap_or(&module);
-        if !["search", "cases", "laws"].contains(&owner) {
+        if !SEARCH.contains(&owner) && !["cases", "laws"].contains(&owner) {
             opened.push((module, name));
         }
     }
@@ -386,7 +390,10 @@ fn cases_knows_nothing_of_simulation_and_envelope() {
 
 #[test]
 fn search_cites_what_is_listed() {
-    let cited = cited_by("search", &INSIDE);
+    let cited: BTreeMap<_, _> = SEARCH
+        .iter()
+        .flat_map(|name| cited_by(name, &INSIDE))
+        .collect();
     let inside = cited
         .iter()
         .filter(|((module, _), _)| INSIDE.contains(&owner(module)));
@@ -413,7 +420,8 @@ fn search_cites_what_is_listed() {
 #[test]
 fn search_unfolds_what_is_listed() {
     let mut seen = BTreeSet::new();
-    for file in files("crates/search", &["rt", "antt"]) {
+    let folders = SEARCH.iter().map(|name| format!("crates/{name}"));
+    for file in folders.flat_map(|folder| files(folder, &["rt", "antt"])) {
         for (module, name) in opened(&text(&file)) {
             let file = file.display();
             assert!(

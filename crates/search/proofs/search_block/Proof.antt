@@ -6,7 +6,7 @@ use native.Mathlib.Omega.{arith}
 use lib.ListN.{length-replicate}
 use borrow.Author.Needs.{needs}
 use Rattle.laws.proofs.Rewritten.{rewritten-first}
-use Rattle.search.proofs.Making.{searchable-kept}
+use Rattle.bounds.proofs.Making.{searchable-kept}
 use Rattle.search.proofs.Answers.{block-searched}
 use Rattle.search.proofs.search_block.Statement.{statement}
 use Rattle.search.proofs.search_block.Tie as tie

@@ -7,7 +7,7 @@ use lib.ListN.{length}
 use Rattle.search.specs.Steps.{CaseToSplit}
 use borrow.Author.Needs.{needs}
 use Rattle.cases.proofs.Records.{has-case}
-use Rattle.search.proofs.Making.{searchable-kept}
+use Rattle.bounds.proofs.Making.{searchable-kept}
 use Rattle.search.proofs.Running.{Reached, reached-first, ran-as, split-room, upper-low, case-to-split, ratio-low, ends-exact, ends-within, ends-spent, reached-next}
 use Rattle.search.proofs.run.run.Statement.{statement}
 use Rattle.search.proofs.run.run.Tie as tie

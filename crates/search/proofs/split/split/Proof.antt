@@ -6,7 +6,7 @@ use native.Mathlib.Omega.{arith}
 use lib.ListN.{length, length-replicate}
 use borrow.Author.Needs.{needs}
 use Rattle.cases.proofs.Records.{codes-copied}
-use Rattle.search.proofs.Making.{searchable-kept}
+use Rattle.bounds.proofs.Making.{searchable-kept}
 use Rattle.search.proofs.Splitting.{Splitting, child-room, splitting-begun, splitting-next, case-split}
 use Rattle.search.proofs.split.split.Statement.{statement}
 use Rattle.search.proofs.split.split.Tie as tie

@@ -29,8 +29,8 @@ use Rattle.cases.specs.Search.{setsAt, casesSheet}
 use Rattle.cases.specs.Store.{patternByte}
 use Rattle.cases.proofs.Cases.{taken-decided, taken-undecided}
 use Rattle.cases.proofs.Records.{sets-copied, cases-long, sets-at}
-use Rattle.search.specs.Search.{sheetOver}
-use Rattle.search.proofs.Making.{probed-is}
+use Rattle.bounds.specs.Bounds.{sheetOver}
+use Rattle.bounds.proofs.Making.{probed-is}
 
 -- The sheet of case k of a store.
 abbrev pub sheetOfCase : File → ℕ → ℕ → List ℕ → ℕ → Sheet

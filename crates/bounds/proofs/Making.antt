@@ -22,8 +22,7 @@ use Rattle.cases.specs.Records.{SetCodes, recordByte}
 use Rattle.cases.specs.Store.{patternByte}
 use Rattle.cases.proofs.Cases.{taken-decided, taken-undecided}
 use Rattle.cases.proofs.Codes.{probe-read}
-use Rattle.search.specs.Search.{simulatedDrop, envelopeDrop}
-use Rattle.search.specs.Steps.{Searchable, ownUpper, Probed, CaseMade}
+use Rattle.bounds.specs.Bounds.{simulatedDrop, envelopeDrop, Searchable, ownUpper, Probed, CaseMade}
 
 -- The pattern that a written probe is, as Simulate reads it.
 pub probed-is : (file : File) (nets inputs : ℕ) → AcceptedFile file nets inputs → (codes given after : List ℕ)

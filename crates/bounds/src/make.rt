@@ -1,12 +1,11 @@
-// A case made: its probe simulated, its upper number found, and its record written. The first case is the frame.
+// A case made: its probe simulated, its upper number found, and its record written.
 ghost use mathlib.Core.Path.{_≡_};
-ghost use Prim.Native.Nat.{_≤_, _<_, _^_, min};
+ghost use Prim.Native.Nat.{_<_, _^_, min};
 ghost use lib.ListN.{length};
 ghost use Rattle.excitation.specs.UncertaintySet.{setsIn};
 ghost use Rattle.cases.specs.Case.{probe};
 ghost use Rattle.cases.specs.Records.{HasCase, SetCodes};
-ghost use Rattle.search.specs.Search.{simulatedDrop};
-ghost use Rattle.search.specs.Steps.{Searchable, Probed, ownUpper, CaseMade, FirstMade};
+ghost use Rattle.bounds.specs.Bounds.{simulatedDrop, Searchable, Probed, ownUpper, CaseMade};
 use super::Setting;
 use cases::CaseNumber;
 use cases::sets;
@@ -104,37 +103,4 @@ pub fn make_case(
     }
     store::copy(&probe, 0, pattern, 0, setting.inputs);
     drop + 1
-}
-
-// Above every upper number: the cap of the first case, which has no parent.
-const NO_CAP: u64 = 18446744073709551615;
-
-// Makes the first case, the whole frame. Returns the drop that the next probe has to reach.
-pub fn make_first(
-    file: &[u8],
-    setting: Setting,
-    table: &[u16],
-    sheet: &mut [Word],
-    pattern: &mut [u8],
-    work: &mut [u8],
-    store: &mut [u8],
-) -> u64
-    requires { ⌜ Searchable (now file) (setting .nets) (setting .inputs) (setting .hops) (now sheet) (now work) × (length (now pattern) ≡ 64) × (72 ≤ length (now store)) ⌝ }
-    ensures { λ r. ⌜ FirstMade (now (file .entry)) (setting .inputs) (setting .hops) (now (table .entry)) (now (store .entry)) (now (pattern .entry)) r (now (store .exit)) (now (pattern .exit)) ⌝ }
-{
-    let mut codes = [0u8; 64];
-    block::frame_codes(file, setting.inputs, &mut codes);
-    make_case(
-        file,
-        setting,
-        table,
-        &codes,
-        NO_CAP,
-        0,
-        CaseNumber(0),
-        sheet,
-        pattern,
-        work,
-        store,
-    )
 }

@@ -1,14 +1,14 @@
--- `search::sheet::draw_case` meets its contract.
+-- `bounds::sheet::draw_case` meets its contract.
 -- Assumes nothing.
 use Prim.Native.Nat.{ℕ}
 use mathlib.Core.Path.{_∙_}
 use lib.ListN.{length-replicate}
 use borrow.Author.Needs.{needs}
 use Rattle.cases.proofs.Records.{codes-copied}
-use Rattle.search.proofs.Making.{case-given}
-use Rattle.search.proofs.Sheets.{case-simulated, case-enveloped}
-use Rattle.search.proofs.sheet.draw_case.Statement.{statement}
-use Rattle.search.proofs.sheet.draw_case.Tie as tie
+use Rattle.bounds.proofs.Making.{case-given}
+use Rattle.bounds.proofs.Sheets.{case-simulated, case-enveloped}
+use Rattle.bounds.proofs.sheet.draw_case.Statement.{statement}
+use Rattle.bounds.proofs.sheet.draw_case.Tie as tie
 
 slice-aggregate-read-sets : tie.Need-slice-aggregate-read-sets
 slice-aggregate-read-sets c = search needs

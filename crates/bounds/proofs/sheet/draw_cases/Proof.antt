@@ -1,16 +1,16 @@
--- `search::sheet::draw_cases` meets its contract.
+-- `bounds::sheet::draw_cases` meets its contract.
 -- Assumes nothing.
 use Prim.Native.Nat.{ℕ, _-_, _≤_}
 use mathlib.Core.Path.{_≡_, refl, sym, _∙_}
 use native.Mathlib.Omega.{arith}
 use lib.ListN.{length, length-replicate}
 use Rattle.current.specs.Current.{sheetWords}
-use Rattle.search.proofs.Making.{searchable-kept}
+use Rattle.bounds.proofs.Making.{searchable-kept}
 use Rattle.current.proofs.Sheets.{sheet-long}
 use Rattle.cases.proofs.Records.{has-case}
-use Rattle.search.proofs.Sheets.{sheetOfCase, sheetBelow, none-drawn, next-drawn, all-drawn}
-use Rattle.search.proofs.sheet.draw_cases.Statement.{statement}
-use Rattle.search.proofs.sheet.draw_cases.Tie as tie
+use Rattle.bounds.proofs.Sheets.{sheetOfCase, sheetBelow, none-drawn, next-drawn, all-drawn}
+use Rattle.bounds.proofs.sheet.draw_cases.Statement.{statement}
+use Rattle.bounds.proofs.sheet.draw_cases.Tie as tie
 
 abbrev Inv-loop : tie.InvT-loop
 Inv-loop file setting table store n sheet₀ work₀ one₀ k₀ sheet work one k = (k ≤ n) × (length work ≡ length work₀) × (length one ≡ 8192) × (sheet ≡ sheetWords (sheetBelow file (setting .hops) (setting .inputs) store k))

@@ -1,10 +1,10 @@
--- `search::make::make_case` meets its contract.
+-- `bounds::make::make_case` meets its contract.
 -- Assumes nothing.
 use native.Mathlib.Omega.{arith}
 use borrow.Author.Needs.{needs}
-use Rattle.search.proofs.Making.{searchable-kept, made-below, made-best}
-use Rattle.search.proofs.make.make_case.Statement.{statement}
-use Rattle.search.proofs.make.make_case.Tie as tie
+use Rattle.bounds.proofs.Making.{searchable-kept, made-below, made-best}
+use Rattle.bounds.proofs.make.make_case.Statement.{statement}
+use Rattle.bounds.proofs.make.make_case.Tie as tie
 
 slice-aggregate-probe-drop : tie.Need-slice-aggregate-probe-drop
 slice-aggregate-probe-drop c = search needs

@@ -1,10 +1,10 @@
--- `search::make::make_first` meets its contract.
+-- `search::make_first` meets its contract.
 -- Assumes nothing.
 use native.Mathlib.Omega.{arith}
 use borrow.Author.Needs.{needs}
 use Rattle.search.proofs.First.{codes-long, frame-coded, first-made}
-use Rattle.search.proofs.make.make_first.Statement.{statement}
-use Rattle.search.proofs.make.make_first.Tie as tie
+use Rattle.search.proofs.make_first.Statement.{statement}
+use Rattle.search.proofs.make_first.Tie as tie
 
 slice-aggregate-frame-codes : tie.Need-slice-aggregate-frame-codes
 slice-aggregate-frame-codes c = search needs

@@ -1,4 +1,4 @@
--- `search::sheet::raise` meets its contract.
+-- `bounds::sheet::raise` meets its contract.
 -- Assumes nothing.
 use Prim.Native.Nat.{_-_, _≤_}
 use mathlib.Core.Path.{_≡_}
@@ -6,9 +6,9 @@ use native.Mathlib.Omega.{arith}
 use borrow.Author.Needs.{needs}
 use Rattle.laws.specs.Rewritten.{Rewritten}
 use Rattle.laws.proofs.Rewritten.{rewritten-none}
-use Rattle.search.proofs.Sheets.{raised, raised-next}
-use Rattle.search.proofs.sheet.raise.Statement.{statement}
-use Rattle.search.proofs.sheet.raise.Tie as tie
+use Rattle.bounds.proofs.Sheets.{raised, raised-next}
+use Rattle.bounds.proofs.sheet.raise.Statement.{statement}
+use Rattle.bounds.proofs.sheet.raise.Tie as tie
 
 abbrev Inv-loop : tie.InvT-loop
 Inv-loop sheet₀ other i₀ sheet i = (i ≤ 8192) × Rewritten (raised sheet₀ other) 0 i sheet₀ sheet

@@ -1,9 +1,9 @@
--- `search::make::own_upper` meets its contract.
+-- `bounds::make::own_upper` meets its contract.
 -- Assumes nothing.
 use borrow.Author.Needs.{needs}
-use Rattle.search.proofs.Making.{case-given, upper-simulated, upper-enveloped}
-use Rattle.search.proofs.make.own_upper.Statement.{statement}
-use Rattle.search.proofs.make.own_upper.Tie as tie
+use Rattle.bounds.proofs.Making.{case-given, upper-simulated, upper-enveloped}
+use Rattle.bounds.proofs.make.own_upper.Statement.{statement}
+use Rattle.bounds.proofs.make.own_upper.Tie as tie
 
 is-decided-requires : tie.Need-is-decided-requires
 is-decided-requires c κs = search needs

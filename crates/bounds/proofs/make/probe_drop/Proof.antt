@@ -1,9 +1,9 @@
--- `search::make::probe_drop` meets its contract.
+-- `bounds::make::probe_drop` meets its contract.
 -- Assumes nothing.
 use borrow.Author.Needs.{needs}
-use Rattle.search.proofs.Making.{probe-simulated}
-use Rattle.search.proofs.make.probe_drop.Statement.{statement}
-use Rattle.search.proofs.make.probe_drop.Tie as tie
+use Rattle.bounds.proofs.Making.{probe-simulated}
+use Rattle.bounds.proofs.make.probe_drop.Statement.{statement}
+use Rattle.bounds.proofs.make.probe_drop.Tie as tie
 
 write-probe-requires : tie.Need-write-probe-requires
 write-probe-requires c κs = search needs
