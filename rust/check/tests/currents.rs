@@ -5,7 +5,9 @@
 use check::implementation::{Implementation, Operation, LIBRARY, SECOND};
 use check::kind::{AND, BUF, NAND, NOR, NOT, OR, XNOR, XOR};
 use check::pattern::{H, HL, L, LH};
-use check::sample::{self, drawing, gate, input, patterns, silent, Arguments, Random, Record, Shape};
+use check::sample::{
+    self, drawing, gate, input, patterns, silent, Arguments, Random, Record, Shape,
+};
 use zimgurav::{Currents, Refusal};
 
 /// Checks the drop, the quiet tick and every word of the sheet. A row is written from tick 0 and is

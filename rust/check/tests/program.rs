@@ -112,7 +112,10 @@ mod examples {
         let file = include_bytes!("../../../examples/adder24.blk");
         let first = format!("h h hl h{}", " lh".repeat(20));
         let second = format!(" hl l l hl{}", " lh".repeat(20));
-        prints(file, &format!("spent 7790 3996 200 601\n{first}{second} l\n"));
+        prints(
+            file,
+            &format!("spent 7790 3996 200 601\n{first}{second} l\n"),
+        );
     }
 
     /// One word for each input, whichever excitation it is.
