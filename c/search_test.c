@@ -86,6 +86,15 @@ static int check_untouched(const char *name)
            check_bytes(name, "store", lent.store, untouched.store, sizeof lent.store);
 }
 
+/* Searches, and checks the answer, the current at tick 1, the pattern and the cases in the store. */
+static int check_search(const char *name, uint64_t ratio, uint64_t budget, const uint64_t *numbers, uint32_t current,
+                        const uint8_t cases[][2], size_t count)
+{
+    search(ratio, budget);
+    return check_numbers(name, lent.answer, numbers) + check_sheet(name, current) + check_pattern(name) +
+           check_store(name, cases, count);
+}
+
 int main(void)
 {
     const uint64_t exact[NUMBERS] = {0, 0, 10, 10, 1, 4};
@@ -96,23 +105,9 @@ int main(void)
     const uint8_t l_h_hl_lh[][2] = {{1, 0}, {2, 0}, {4, 10}, {8, 10}};
     int wrong = 0;
 
-    search(1000, BUDGET);
-    wrong += check_numbers("budget 200", lent.answer, exact);
-    wrong += check_sheet("budget 200", 10);
-    wrong += check_pattern("budget 200");
-    wrong += check_store("budget 200", l_h_hl_lh, 4);
-
-    search(2000, 0);
-    wrong += check_numbers("ratio 2,000", lent.answer, within);
-    wrong += check_sheet("ratio 2,000", 20);
-    wrong += check_pattern("ratio 2,000");
-    wrong += check_store("ratio 2,000", whole_frame, 1);
-
-    search(1999, 0);
-    wrong += check_numbers("ratio 1,999", lent.answer, spent);
-    wrong += check_sheet("ratio 1,999", 20);
-    wrong += check_pattern("ratio 1,999");
-    wrong += check_store("ratio 1,999", whole_frame, 1);
+    wrong += check_search("budget 200", 1000, BUDGET, exact, 10, l_h_hl_lh, 4);
+    wrong += check_search("ratio 2,000", 2000, 0, within, 20, whole_frame, 1);
+    wrong += check_search("ratio 1,999", 1999, 0, spent, 20, whole_frame, 1);
 
     search(1000, 10001);
     wrong += check_numbers("budget 10,001", lent.answer, budget);

@@ -28,7 +28,7 @@ pub fn refused_net(number: u64, net: Net) -> Verdict
 }
 
 // Whether x is low to high.
-fn in_range(x: usize, low: usize, high: usize) -> bool
+pub fn in_range(x: usize, low: usize, high: usize) -> bool
     ensures { λ r. ⌜ r ≡ within low high x ⌝ }
 {
     if x < low {

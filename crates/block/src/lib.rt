@@ -14,6 +14,7 @@ mod reader;
 pub mod record;
 pub mod view;
 
+pub use checks::in_range;
 pub use checks::refused;
 pub use kind::Rule;
 pub use kind::gate_rule;

@@ -3,20 +3,9 @@ ghost use mathlib.Core.Path.{_≡_};
 ghost use mathlib.Core.List.{_++_};
 ghost use Prim.Native.Nat.{_≤_};
 ghost use Rattle.block.specs.Verdict.{verdict};
-ghost use Rattle.evaluation.specs.Arguments.{ratioRight};
 ghost use Rattle.search.specs.Search.{limitChecks, bufferChecks};
 use block::Verdict;
 use evaluation::arguments;
-
-// Whether a ratio is 1,000 to 10,000.
-fn ratio_right(ratio: u64) -> bool
-    ensures { λ r. ⌜ r ≡ ratioRight ratio ⌝ }
-{
-    if ratio < 1000 {
-        return false;
-    }
-    ratio <= 10000
-}
 
 // Checks 11 to 14.
 fn check_limits(hops: u64, table: usize, ratio: u64, budget: u64) -> Verdict
@@ -28,7 +17,7 @@ fn check_limits(hops: u64, table: usize, ratio: u64, budget: u64) -> Verdict
     if !arguments::table_right(table) {
         return block::refused(12, 0);
     }
-    if !ratio_right(ratio) {
+    if !arguments::ratio_right(ratio) {
         return block::refused(13, 0);
     }
     if 10000 < budget {

@@ -2,8 +2,8 @@
 ghost use mathlib.Core.Path.{_≡_};
 ghost use Prim.Native.Nat.{_+_, _*_, _≤_};
 ghost use lib.ListN.{length};
-ghost use Rattle.search.specs.Search.{Searched};
 ghost use Rattle.bounds.specs.Bounds.{Searchable};
+ghost use Rattle.search.specs.Search.{Searched};
 ghost use Rattle.search.specs.Steps.{FirstMade, BlockSearched};
 use block::ReadAnswer;
 use block::Refusal;

@@ -32,8 +32,23 @@ struct Named {
     why: &'static str,
 }
 
+/// Checks 11 to 15.
+const CHECKS: [&str; 8] = [
+    "hopsCheck",
+    "tableCheck",
+    "ratioCheck",
+    "budgetCheck",
+    "sheetCheck",
+    "patternCheck",
+    "workCheck",
+    "storeCheck",
+];
+
+/// What goes by the verdict on an operation's checks.
+const BY_VERDICT: [&str; 4] = ["answerAfter", "bufferAfter", "sheetAfter", "WorkAfter"];
+
 /// All that the search cites of the crates inside which it may not look.
-const CITED: [Named; 18] = [
+const CITED: [Named; 19] = [
     Named {
         module: "evaluation.specs.Evaluation",
         names: &["simulatedSheet", "envelopeSheet"],
@@ -71,24 +86,17 @@ const CITED: [Named; 18] = [
     },
     Named {
         module: "evaluation.specs.Arguments",
-        names: &[
-            "hopsRight",
-            "tableRight",
-            "ratioRight",
-            "hopsCheck",
-            "tableCheck",
-            "ratioCheck",
-            "budgetCheck",
-            "sheetCheck",
-            "patternCheck",
-            "workCheck",
-            "storeCheck",
-        ],
+        names: &CHECKS,
         why: "Checks 11 to 15, which Search makes too.",
     },
     Named {
+        module: "evaluation.specs.Arguments",
+        names: &["hopsRight", "tableRight", "ratioRight"],
+        why: "The tests of three of them.",
+    },
+    Named {
         module: "evaluation.specs.Operation",
-        names: &["answerAfter", "bufferAfter", "sheetAfter", "WorkAfter"],
+        names: &BY_VERDICT,
         why: "What an operation answers and leaves in its buffers, by the verdict on its checks.",
     },
     Named {
@@ -148,23 +156,8 @@ const ABBREVIATIONS: [(&[&str], &str); 4] = [
         &["Sheet"],
         "It opens to the type of functions from contact and tick to a number.",
     ),
-    (
-        &["answerAfter", "bufferAfter", "sheetAfter", "WorkAfter"],
-        "They open to cases on the verdict.",
-    ),
-    (
-        &[
-            "hopsCheck",
-            "tableCheck",
-            "ratioCheck",
-            "budgetCheck",
-            "sheetCheck",
-            "patternCheck",
-            "workCheck",
-            "storeCheck",
-        ],
-        "They open to a check's number, place and test.",
-    ),
+    (&BY_VERDICT, "They open to cases on the verdict."),
+    (&CHECKS, "They open to a check's number, place and test."),
 ];
 
 /// All that the search unfolds, in its proofs and anywhere, of crates other than its own, `cases` and `laws`.
