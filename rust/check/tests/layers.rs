@@ -137,7 +137,7 @@ const CITED: [Named; 19] = [
     Named {
         module: "evaluation::",
         names: &["evaluate", "arguments"],
-        why: "The code of an evaluation and of checks 11 and 12, called by contract.",
+        why: "The code of an evaluation and of checks 11 to 13, called by contract.",
     },
     Named {
         module: "simulator::, current::",
