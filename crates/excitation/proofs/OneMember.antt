@@ -18,7 +18,7 @@ pub of-single : (x e : Excitation) → e ∈ single x → e ≡ x
 of-single x e m = same-gives e x (sym (member-single e x) ∙ m)
 
 -- A set with the one member x.
-single-is : (s : UncertaintySet) (x : Excitation) → x ∈ s → ((e : Excitation) → e ∈ s → e ≡ x) → s ≡ single x
+pub single-is : (s : UncertaintySet) (x : Excitation) → x ∈ s → ((e : Excitation) → e ∈ s → e ≡ x) → s ≡ single x
 single-is s x here only =
     set-is s (single x)
     (λ e. cases (member e s)

@@ -5,7 +5,7 @@ use mathlib.Core.Bool.{Bool, true, false, cond, _&&_, _||_}
 use mathlib.Core.List.{List}
 use lib.Dec.{eqb}
 use lib.ListN.{getD}
-use Rattle.laws.specs.Below.{digit}
+use Rattle.laws.specs.Below.{indicator}
 use Rattle.laws.specs.Turn.{listBelow}
 use Rattle.excitation.specs.declared.Excitation.{Excitation}
 use Rattle.excitation.specs.Excitation.{TwoLevel, l, h, hl, lh, same, joinExcitations, invertExcitation, heldBefore, heldAfter}
@@ -49,7 +49,7 @@ some p = p l || p h || p hl || p lh
 
 -- Document 01's number of a set, 0 to 15, as byte 18 has it: a sum of 1 (l), 2 (h), 4 (hl), 8 (lh).
 unfoldable pub code : UncertaintySet → ℕ
-code s = digit (s .has-l) + 2 * digit (s .has-h) + 4 * digit (s .has-hl) + 8 * digit (s .has-lh)
+code s = indicator (s .has-l) + 2 * indicator (s .has-h) + 4 * indicator (s .has-hl) + 8 * indicator (s .has-lh)
 
 -- The set that a byte codes. Its four high bits say nothing.
 unfoldable pub decode : ℕ → UncertaintySet
@@ -95,7 +95,7 @@ heldAfterSet = each heldAfter
 
 -- How many members a set has.
 unfoldable pub size : UncertaintySet → ℕ
-size s = digit (s .has-l) + digit (s .has-h) + digit (s .has-hl) + digit (s .has-lh)
+size s = indicator (s .has-l) + indicator (s .has-h) + indicator (s .has-hl) + indicator (s .has-lh)
 
 -- A set whose members hold their level: neither hl nor lh is one of them.
 pub record Held (s : UncertaintySet) : Type 0 where

@@ -4,13 +4,13 @@ use Prim.Native.Nat.{ℕ, zero, suc, _+_, _*_, _≤_, _<_, max}
 use mathlib.Core.Path.{_≡_, refl}
 use mathlib.Core.Bool.{Bool, true, false, cond}
 use mathlib.Core.Logic.{⊎-elim}
-use native.Mathlib.Nat.{not-suc-le-zero, eq-or-lt-of-le, le-of-suc-le-suc}
+use native.Mathlib.Nat.{not-suc-le-zero, eq-or-lt-of-le, le-of-suc-le-suc, mul-le-mul-right}
 use native.Mathlib.Numerals.{add-one}
 use native.Mathlib.Omega.{arith}
-use lib.Dec.{ltb}
-use borrow.Author.Tests.{ltb-true, ltb-false}
+use lib.Dec.{eqb, ltb}
+use borrow.Author.Tests.{ltb-true, ltb-false, eqb-true, ne-eqb}
 use borrow.Table.Steps.{cases}
-use Rattle.laws.specs.Below.{allBelow, anyBelow, maxBelow, firstGreatest, sumBelow, digit, countBelow}
+use Rattle.laws.specs.Below.{allBelow, anyBelow, maxBelow, argmax, sumBelow, indicator, countBelow}
 use Rattle.laws.proofs.Tests.{and-left, and-right, and-both, and-second-fails, or-first, or-second}
 
 -- One number more, as a loop counts.
@@ -27,15 +27,15 @@ pub max-next : (n : ℕ) (f : ℕ → ℕ) → maxBelow (n + 1) f ≡ max (maxBe
 unfolding maxBelow
 max-next n f = rw add-one refl
 
-pub first-greatest-next : (n : ℕ) (f : ℕ → ℕ) → firstGreatest (n + 1) f ≡ cond (ltb (f (firstGreatest n f)) (f n)) n (firstGreatest n f)
-unfolding firstGreatest
-first-greatest-next n f = rw add-one refl
+pub argmax-next : (n : ℕ) (f : ℕ → ℕ) → argmax (n + 1) f ≡ cond (ltb (f (argmax n f)) (f n)) n (argmax n f)
+unfolding argmax
+argmax-next n f = rw add-one refl
 
 pub sum-next : (n : ℕ) (f : ℕ → ℕ) → sumBelow (n + 1) f ≡ sumBelow n f + f n
 unfolding sumBelow
 sum-next n f = rw add-one refl
 
-pub count-next : (n : ℕ) (p : ℕ → Bool) → countBelow (n + 1) p ≡ countBelow n p + digit (p n)
+pub count-next : (n : ℕ) (p : ℕ → Bool) → countBelow (n + 1) p ≡ countBelow n p + indicator (p n)
 unfolding countBelow
 count-next n p = rw add-one refl
 
@@ -105,9 +105,9 @@ count-first zero p f k h = absurd (not-suc-le-zero h)
 count-first (suc n) p f k h =
     cases (p n)
     (λ t. let all = f n (omega arith) t in
-    let count : countBelow n p + digit (p n) ≡ n + 1 = rw (t, count-of-all n p all) refl in
+    let count : countBelow n p + indicator (p n) ≡ n + 1 = rw (t, count-of-all n p all) refl in
     (λ l. ⊎-elim (λ (q : k ≡ n). rw q t) (λ m. all-at n p k all m) (eq-or-lt-of-le (le-of-suc-le-suc h)), λ l. absurd (omega arith)))
-    (λ t. let count : countBelow n p + digit (p n) ≡ countBelow n p + 0 = rw t refl in
+    (λ t. let count : countBelow n p + indicator (p n) ≡ countBelow n p + 0 = rw t refl in
     let most = count-at-most n p in
     ⊎-elim (λ (q : k ≡ n). (λ l. absurd (omega arith), λ l. rw q t))
     (λ m. let rest = count-first n p (λ j l u. f j (omega arith) u) k m in (λ l. rest .0 (omega arith), λ l. rest .1 (omega arith)))
@@ -169,6 +169,43 @@ unfolding sumBelow
 sum-within zero f bound each = omega arith
 sum-within (suc n) f bound each = omega (arith, sum-within n f bound (λ k h. each k (omega arith)), each n (omega arith))
 
+-- No value is above the sum, and fewer values sum to no more.
+
+pub sum-at : (n : ℕ) (f : ℕ → ℕ) (k : ℕ) → k < n → f k ≤ sumBelow n f
+unfolding sumBelow
+sum-at zero f k h = absurd (not-suc-le-zero h)
+sum-at (suc n) f k h =
+    ⊎-elim (λ (q : k ≡ n). rw q (omega arith)) (λ l. omega (arith, sum-at n f k l)) (eq-or-lt-of-le (le-of-suc-le-suc h))
+
+pub sum-fewer : (m n : ℕ) (f : ℕ → ℕ) → n ≤ m → sumBelow n f ≤ sumBelow m f
+unfolding sumBelow
+sum-fewer zero n f h = let e : n ≡ 0 = omega arith in rw e (omega arith)
+sum-fewer (suc m) n f h =
+    ⊎-elim (λ (e : n ≡ suc m). rw e (omega arith)) (λ l. omega (arith, sum-fewer m n f (le-of-suc-le-suc l))) (eq-or-lt-of-le h)
+
+-- Values times weights that have a bound: the bound times the sum of the values is a bound of the sum.
+pub sum-weighted : (n : ℕ) (weight f : ℕ → ℕ) (bound : ℕ) → ((k : ℕ) → k < n → weight k ≤ bound)
+    → sumBelow n (λ k. weight k * f k) ≤ bound * sumBelow n f
+unfolding sumBelow
+sum-weighted zero weight f bound each = omega arith
+sum-weighted (suc n) weight f bound each =
+    let last : weight n * f n ≤ bound * f n = mul-le-mul-right (f n) (each n (omega arith)) in
+    omega (arith, sum-weighted n weight f bound (λ k h. each k (omega arith)))
+
+-- Where at most x is added to one value and nothing to the others, at most x is added to the sum.
+pub sum-one-more : (n : ℕ) (f g : ℕ → ℕ) (at x : ℕ) → ((k : ℕ) → k < n → g k ≤ f k + cond (eqb at k) x 0) → sumBelow n g ≤ sumBelow n f + x
+unfolding sumBelow
+sum-one-more zero f g at x each = omega arith
+sum-one-more (suc n) f g at x each =
+    cases (eqb at n)
+    (λ t. let e = eqb-true at n t in
+    let last : g n ≤ f n + x = rw t at (each n (omega arith)) in
+    let others = sum-at-most n g f
+    (λ k h. let here : g k ≤ f k + 0 = rw (ne-eqb at k (λ q. omega arith)) at (each k (omega arith)) in omega arith) in
+    omega arith)
+    (λ t. let last : g n ≤ f n + 0 = rw t at (each n (omega arith)) in
+    omega (arith, sum-one-more n f g at x (λ k h. each k (omega arith))))
+
 -- Values that are 0 from n on add nothing to the greatest.
 pub max-beyond : (m n : ℕ) (f : ℕ → ℕ) → n ≤ m → ((k : ℕ) → n ≤ k → k < m → f k ≡ 0) → maxBelow m f ≡ maxBelow n f
 unfolding maxBelow
@@ -180,47 +217,47 @@ max-beyond (suc m) n f h none =
 
 -- The first number at which f is greatest: it is below n where there is one, f is greatest at it, and f is less before it.
 
-first-greatest-at-most : (n : ℕ) (f : ℕ → ℕ) → firstGreatest n f ≤ n
-unfolding firstGreatest
-first-greatest-at-most zero f = omega arith
-first-greatest-at-most (suc n) f =
-    let h = first-greatest-at-most n f in
-    cases (ltb (f (firstGreatest n f)) (f n)) (λ t. rw t (omega arith)) (λ t. rw t (omega arith))
+argmax-at-most : (n : ℕ) (f : ℕ → ℕ) → argmax n f ≤ n
+unfolding argmax
+argmax-at-most zero f = omega arith
+argmax-at-most (suc n) f =
+    let h = argmax-at-most n f in
+    cases (ltb (f (argmax n f)) (f n)) (λ t. rw t (omega arith)) (λ t. rw t (omega arith))
 
-pub first-greatest-inside : (n : ℕ) (f : ℕ → ℕ) → 1 ≤ n → firstGreatest n f < n
-unfolding firstGreatest
-first-greatest-inside zero f l = absurd (omega arith)
-first-greatest-inside (suc n) f l =
-    let h = first-greatest-at-most n f in
-    cases (ltb (f (firstGreatest n f)) (f n)) (λ t. rw t (omega arith)) (λ t. rw t (omega arith))
+pub argmax-inside : (n : ℕ) (f : ℕ → ℕ) → 1 ≤ n → argmax n f < n
+unfolding argmax
+argmax-inside zero f l = absurd (omega arith)
+argmax-inside (suc n) f l =
+    let h = argmax-at-most n f in
+    cases (ltb (f (argmax n f)) (f n)) (λ t. rw t (omega arith)) (λ t. rw t (omega arith))
 
-pub first-greatest-is : (n : ℕ) (f : ℕ → ℕ) → 1 ≤ n → f (firstGreatest n f) ≡ maxBelow n f
-unfolding firstGreatest maxBelow
-first-greatest-is zero f l = absurd (omega arith)
-first-greatest-is (suc zero) f l = cases (ltb (f 0) (f 0)) (λ t. rw t (omega arith)) (λ t. rw t (omega arith))
-first-greatest-is (suc (suc n)) f l =
-    let best = firstGreatest (suc n) f in
-    let h : f best ≡ maxBelow (suc n) f = first-greatest-is (suc n) f (omega arith) in
+pub argmax-is : (n : ℕ) (f : ℕ → ℕ) → 1 ≤ n → f (argmax n f) ≡ maxBelow n f
+unfolding argmax maxBelow
+argmax-is zero f l = absurd (omega arith)
+argmax-is (suc zero) f l = cases (ltb (f 0) (f 0)) (λ t. rw t (omega arith)) (λ t. rw t (omega arith))
+argmax-is (suc (suc n)) f l =
+    let best = argmax (suc n) f in
+    let h : f best ≡ maxBelow (suc n) f = argmax-is (suc n) f (omega arith) in
     cases (ltb (f best) (f (suc n)))
     (λ t. let m = ltb-true (f best) (f (suc n)) t in rw t (omega arith))
     (λ t. let m = ltb-false (f best) (f (suc n)) t in rw t (omega arith))
 
-pub first-greatest-before : (n : ℕ) (f : ℕ → ℕ) (k : ℕ) → k < firstGreatest n f → f k < f (firstGreatest n f)
-unfolding firstGreatest
-first-greatest-before zero f k = λ h. absurd (not-suc-le-zero h)
-first-greatest-before (suc n) f k =
-    let best = firstGreatest n f in
+pub argmax-before : (n : ℕ) (f : ℕ → ℕ) (k : ℕ) → k < argmax n f → f k < f (argmax n f)
+unfolding argmax
+argmax-before zero f k = λ h. absurd (not-suc-le-zero h)
+argmax-before (suc n) f k =
+    let best = argmax n f in
     cases (ltb (f best) (f n))
-    (λ t. rw t (λ h. omega (arith, ltb-true (f best) (f n) t, max-at n f k h, first-greatest-is n f (omega arith))))
-    (λ t. rw t (first-greatest-before n f k))
+    (λ t. rw t (λ h. omega (arith, ltb-true (f best) (f n) t, max-at n f k h, argmax-is n f (omega arith))))
+    (λ t. rw t (argmax-before n f k))
 
-pub first-greatest-same : (n : ℕ) (f g : ℕ → ℕ) → ((k : ℕ) → k < n → f k ≡ g k) → firstGreatest n f ≡ firstGreatest n g
-unfolding firstGreatest
-first-greatest-same zero f g same = refl
-first-greatest-same (suc n) f g same =
+pub argmax-same : (n : ℕ) (f g : ℕ → ℕ) → ((k : ℕ) → k < n → f k ≡ g k) → argmax n f ≡ argmax n g
+unfolding argmax
+argmax-same zero f g same = refl
+argmax-same (suc n) f g same =
     rw (
-      first-greatest-same n f g (λ k h. same k (omega arith)),
-      same (firstGreatest n g) (omega (arith, first-greatest-at-most n g)),
+      argmax-same n f g (λ k h. same k (omega arith)),
+      same (argmax n g) (omega (arith, argmax-at-most n g)),
       same n (omega arith),
     )
     refl

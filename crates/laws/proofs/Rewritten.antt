@@ -1,9 +1,9 @@
--- Laws of buffers of which one stretch was written by a rule: a loop that writes them word by word.
+-- Laws of buffers of which one range was written by a rule: a loop that writes them word by word.
 -- Assumes nothing.
-use Prim.Native.Nat.{ℕ, _+_, _-_, _<_}
+use Prim.Native.Nat.{ℕ, _+_, _-_, _≤_, _<_}
 use mathlib.Core.Path.{_≡_, refl, ap, sym, subst, _∙_}
 use mathlib.Core.List.{List}
-use mathlib.Core.Logic.{_⊎_, inl, inr, ⊎-elim}
+use mathlib.Core.Logic.{inl, inr, ⊎-elim}
 use native.Mathlib.Nat.{eq-or-lt-of-le, zero-add}
 use native.Mathlib.Omega.{arith}
 use lib.Dec.{ltb}
@@ -34,20 +34,27 @@ rewritten-next f from n at v given now e h r w = record {
       o;
 }
 
--- A stretch of another length that is the same.
+-- A range of another length that is the same.
 pub rewritten-to : (f : ℕ → ℕ) (from n m : ℕ) (given now : List ℕ) → n ≡ m → Rewritten f from n given now → Rewritten f from m given now
 rewritten-to f from n m given now e w = subst (λ k. Rewritten f from k given now) e w
 
--- A stretch from the start of the buffer on.
+-- A range from the start of the buffer on.
 pub rewritten-first : (f : ℕ → ℕ) (n : ℕ) (given now : List ℕ) → Rewritten f 0 n given now → (k : ℕ) → k < n → getD now k 0 ≡ f k
 rewritten-first f n given now w k h = ap (λ j. getD now j 0) (sym (zero-add k)) ∙ w .done k h
 
--- The same by another rule that agrees with the first on the stretch.
+-- The word at a place of the range.
+pub rewritten-at : {f : ℕ → ℕ} {from n : ℕ} {given now : List ℕ} → Rewritten f from n given now → (i : ℕ) → from ≤ i → i < from + n
+    → getD now i 0 ≡ f (i - from)
+rewritten-at {from = from} {now = now} w i low high =
+    let place : i ≡ from + (i - from) = omega arith in
+    ap (λ j. getD now j 0) place ∙ w .done (i - from) (omega arith)
+
+-- The same by another rule that agrees with the first on the range.
 pub rewritten-same : (f g : ℕ → ℕ) (from n : ℕ) (given now : List ℕ) → ((k : ℕ) → k < n → f k ≡ g k) → Rewritten f from n given now
     → Rewritten g from n given now
 rewritten-same f g from n given now same w = record { long = w .long; done = λ k l. w .done k l ∙ same k l; rest = w .rest }
 
--- Two stretches, the second right after the first, are one by any rule that is f on the first and g after it.
+-- Two ranges, the second right after the first, are one by any rule that is f on the first and g after it.
 pub rewritten-append : (f g h : ℕ → ℕ) (from n at m : ℕ) (given now after : List ℕ) → at ≡ from + n
     → ((k : ℕ) → k < n → f k ≡ h k) → ((k : ℕ) → k < m → g k ≡ h (n + k))
     → Rewritten f from n given now → Rewritten g at m now after → Rewritten h from (n + m) given after

@@ -19,9 +19,9 @@ maxBelow zero f = 0
 maxBelow (suc n) f = max (maxBelow n f) (f n)
 
 -- The first number below n at which f is greatest, 0 where there is none.
-unfoldable pub firstGreatest : ℕ → (ℕ → ℕ) → ℕ
-firstGreatest zero f = 0
-firstGreatest (suc n) f = let best = firstGreatest n f in cond (ltb (f best) (f n)) n best
+unfoldable pub argmax : ℕ → (ℕ → ℕ) → ℕ
+argmax zero f = 0
+argmax (suc n) f = let best = argmax n f in cond (ltb (f best) (f n)) n best
 
 -- The sum of the values of f below n.
 unfoldable pub sumBelow : ℕ → (ℕ → ℕ) → ℕ
@@ -29,11 +29,11 @@ sumBelow zero f = 0
 sumBelow (suc n) f = sumBelow n f + f n
 
 -- 1 where a test passes, 0 where it fails.
-abbrev pub digit : Bool → ℕ
-digit true = 1
-digit false = 0
+abbrev pub indicator : Bool → ℕ
+indicator true = 1
+indicator false = 0
 
 -- How many numbers below n pass p.
 unfoldable pub countBelow : ℕ → (ℕ → Bool) → ℕ
 countBelow zero p = 0
-countBelow (suc n) p = countBelow n p + digit (p n)
+countBelow (suc n) p = countBelow n p + indicator (p n)

@@ -1,4 +1,4 @@
--- Buffers of which one stretch was written by a rule.
+-- Buffers of which one range was written by a rule.
 use Prim.Native.Nat.{ℕ, _+_, _≤_, _<_}
 use mathlib.Core.Path.{_≡_}
 use mathlib.Core.List.{List}
