@@ -23,7 +23,7 @@ use Rattle.block.specs.declared.Verdict.the-variants.{Accepted, Refused}
 use Rattle.block.specs.Record.{File, HasRecord, netCount, allowed, isInput}
 use Rattle.block.specs.Block.{arrivalFrom, arrivals, arrival, inputsBelow, inputCount}
 use Rattle.block.specs.Verdict.{verdict}
-use Rattle.block.specs.Refusals.{fileChecks, inputInPlace, arrivalInTime, fieldChecks, recordChecks, recordsFrom, readChecks, answerTo, readOf}
+use Rattle.block.specs.Refusals.{startsWithInput, fileChecks, inputInPlace, arrivalInTime, fieldChecks, recordChecks, recordsFrom, readChecks, answerTo, readOf}
 use Rattle.block.specs.Accepted.{InputRecord, AcceptedFile}
 use Rattle.block.proofs.Verdicts.{passed, both-accepted}
 use Rattle.block.proofs.Fields.{gate-record, input-record}
@@ -48,7 +48,7 @@ module _ (file : File) (net : ℕ) (judged : verdict (recordChecks file net) ≡
   unfolding recordChecks
   fields-accepted = both-accepted (fieldChecks file net) _ judged .0
 
-  arrival-in-time : arrival file net ≤ 255
+  pub arrival-in-time : arrival file net ≤ 255
   unfolding recordChecks arrivalInTime
   arrival-in-time = leb-true _ _ (passed 10 net _ [] (both-accepted (fieldChecks file net) _ judged .1) .0)
 
@@ -59,10 +59,10 @@ module _ (file : File) (net : ℕ) (judged : verdict (recordChecks file net) ≡
       (and-left _ _ p, ltb-true _ _ (and-right (allBelow net (isInput file)) _ p))
 
 -- What the whole-file checks leave true.
-file-accepted : (file : File) → verdict (fileChecks file) ≡ Accepted
+pub file-passed : (file : File) → verdict (fileChecks file) ≡ Accepted
     → (length file % 20 ≡ 0) × (netCount file ≤ 1024) × (1 ≤ netCount file) × (isInput file 0 ≡ true)
-unfolding fileChecks
-file-accepted file e =
+unfolding fileChecks startsWithInput
+file-passed file e =
     let p1 = passed _ _ _ _ e in
     let p2 = passed _ _ _ _ (p1 .1) in
     let p3 = passed _ _ _ _ (p2 .1) .0 in
@@ -102,7 +102,7 @@ unfolding readOf readChecks inputsBelow
 accepted file nets inputs e =
     let v = counts-of file (verdict (readChecks file)) nets inputs e in
     let both = both-accepted (fileChecks file) (recordsFrom file 0 (netCount file)) (v .0) in
-    let f = file-accepted file (both .0) in
+    let f = file-passed file (both .0) in
     let n : netCount file ≡ nets = v .1 in
     let judged : (net : ℕ) → net < nets → verdict (recordChecks file net) ≡ Accepted =
     λ net h. each-record file (netCount file) 0 (both .1) net (omega arith) (omega arith) in
@@ -120,6 +120,7 @@ accepted file nets inputs e =
       few-inputs = omega arith;
       inputs-first = omega arith;
       input = λ net h. input-record file net (fields-accepted file net (judged net (omega arith))) (are net (omega arith) .0 (omega arith)) .0;
+      no-input = λ net low high. are net high .1 (omega arith);
       gate = λ net low high. gate-record file net (fields-accepted file net (judged net high)) (are net high .1 (omega arith));
       arrives = λ net h. arrival-in-time file net (judged net h);
     }

@@ -7,16 +7,17 @@ use Rattle.laws.specs.Turn.{inTurn, listBelow}
 use Rattle.excitation.specs.UncertaintySet.{member, code, decode, joinSets, each, size}
 use Rattle.block.specs.Record.{isInput}
 use Rattle.block.specs.Kind.{kindOf}
-use Rattle.block.specs.Block.{latestPin, arrivalFrom, arrivals, inputsBelow, frame, choiceCount, fedFrom, coneSize, quietTick}
+use Rattle.block.specs.Block.{latestPin, arrivalFrom, arrivals, inputsBelow, frame, choiceCount, feeds, fedFrom, coneSize, lastPulseEnd, settlingTick, switchingTick}
 use Rattle.block.specs.Verdict.{verdict}
-use Rattle.block.specs.Refusals.{within, zeroBytes, fileChecks, kindKnown, inputInPlace, pinCountRight, inputSpareZero, unusedPinsZero, gateSpareZero, pinsBelow, gateInRange, inputInRange, arrivalInTime, inputChecks, gateChecks, fieldChecks, recordChecks, recordsFrom, readChecks, readOf}
+use Rattle.block.specs.Refusals.{within, zeroBytes, startsWithInput, fileChecks, kindKnown, inputInPlace, pinCountRight, inputSpareZero, unusedPinsZero, gateSpareZero, pinsBelow, gateInRange, inputInRange, arrivalInTime, inputChecks, gateChecks, fieldChecks, recordChecks, recordsFrom, readChecks, readOf}
 use Rattle.block.specs.Gate.{gateValue}
+use Rattle.block.specs.View.{gateOf}
 use Rattle.block.specs.Examples.{BlockExamples}
 
 pub block-examples : BlockExamples
 unfolding allBelow anyBelow maxBelow countBelow inTurn listBelow xor member code decode joinSets each size isInput kindOf
-    latestPin arrivalFrom arrivals inputsBelow frame choiceCount fedFrom coneSize quietTick verdict within zeroBytes
-    fileChecks kindKnown inputInPlace pinCountRight inputSpareZero unusedPinsZero gateSpareZero pinsBelow gateInRange
+    latestPin arrivalFrom arrivals inputsBelow frame choiceCount feeds fedFrom coneSize lastPulseEnd settlingTick switchingTick gateOf verdict within zeroBytes
+    startsWithInput fileChecks kindKnown inputInPlace pinCountRight inputSpareZero unusedPinsZero gateSpareZero pinsBelow gateInRange
     inputInRange arrivalInTime inputChecks gateChecks fieldChecks recordChecks recordsFrom readChecks readOf gateValue
 block-examples = record {
   read-S = refl;
@@ -35,9 +36,9 @@ block-examples = record {
   cone-S = refl;
   cones-F = (refl, refl);
   cones-R = (refl, refl);
-  quiet-S = refl;
-  quiet-F = refl;
-  quiet-R = refl;
+  settling-S = refl;
+  settling-F = refl;
+  settling-R = refl;
   nand-of-three = refl;
   nor-of-three = refl;
   xnor-of-three = refl;

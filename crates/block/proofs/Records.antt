@@ -2,27 +2,28 @@
 -- Assumes nothing.
 use Prim.Native.Nat.{ℕ, suc, _+_, _-_, _≤_, _<_}
 use mathlib.Core.Path.{_≡_, refl, sym, ap, _∙_}
-use mathlib.Core.List.{List, [], _++_}
+use mathlib.Core.List.{List, _++_}
 use native.Mathlib.Omega.{arith}
 use native.Mathlib.Numerals.{add-one}
+use lib.Dec.{leb}
 use lib.ListN.{length, take, set}
 use lib.Seq.{take-suc-set}
-use borrow.Author.Tests.{le-leb, lt-leb}
-use Rattle.laws.specs.Below.{digit}
+use Rattle.laws.specs.Below.{indicator}
 use Rattle.laws.proofs.Below.{count-next}
 use Rattle.laws.proofs.Turn.{turn-next}
 use Rattle.block.specs.declared.Refusal.{Refusal}
+use Rattle.block.specs.declared.Verdict.{Verdict}
 use Rattle.block.specs.declared.Verdict.the-variants.{Accepted, Refused}
 use Rattle.block.specs.Record.{File, isInput}
 use Rattle.block.specs.Block.{arrivalFrom, arrivals, arrival, inputsBelow}
-use Rattle.block.specs.Verdict.{refusal, verdict}
+use Rattle.block.specs.Verdict.{check, verdict, also}
 use Rattle.block.specs.Refusals.{arrivalInTime, fieldChecks, recordChecks, recordsFrom}
-use Rattle.block.proofs.Verdicts.{passes, fails, all-passed, refused-first, accepted-first}
+use Rattle.block.proofs.Verdicts.{all-passed, more-by, refused-first, accepted-first}
 
 -- What the reader keeps, after one net more.
 
 pub counted-next : (file : File) (net inputs : ℕ) → inputs ≡ inputsBelow file net
-    → inputs + digit (isInput file net) ≡ inputsBelow file (net + 1)
+    → inputs + indicator (isInput file net) ≡ inputsBelow file (net + 1)
 unfolding inputsBelow
 counted-next file net inputs e = rw e (sym (count-next net (isInput file)))
 
@@ -39,14 +40,10 @@ module _ (file : File) (net : ℕ) where
   unfolding recordChecks
   fields-refused r e = refused-first (fieldChecks file net) _ r e
 
-  module _ (passed : verdict (fieldChecks file net) ≡ Accepted) where
-    pub arrives-late : 255 < arrival file net → verdict (recordChecks file net) ≡ Refused (refusal 10 net)
-    unfolding recordChecks arrivalInTime
-    arrives-late h = accepted-first (fieldChecks file net) _ passed ∙ sym (fails 10 net [] (lt-leb _ _ h) refl)
-
-    pub record-passes : arrival file net ≤ 255 → verdict (recordChecks file net) ≡ Accepted
-    unfolding recordChecks arrivalInTime
-    record-passes h = accepted-first (fieldChecks file net) _ passed ∙ sym (passes 10 net [] (le-leb _ _ h) all-passed)
+  pub record-judged : {a : ℕ} {fields answer : Verdict} → fields ≡ verdict (fieldChecks file net) → a ≡ arrival file net
+      → answer ≡ also fields (check 10 net (leb a 255)) → answer ≡ verdict (recordChecks file net)
+  unfolding recordChecks arrivalInTime
+  record-judged passed e f = more-by (fieldChecks file net) 10 net passed f (ap (λ n. leb n 255) e)
 
 -- The verdict on the records from a net on, by that on its own.
 module _ (file : File) (net nets : ℕ) where

@@ -2,7 +2,7 @@
 -- list says of each of its checks.
 -- Assumes nothing.
 use Prim.Native.Nat.{ℕ}
-use mathlib.Core.Path.{_≡_, refl, sym}
+use mathlib.Core.Path.{_≡_, refl, sym, ap, _∙_}
 use mathlib.Core.Bool.{Bool, true, false}
 use mathlib.Core.List.{List, [], _∷_, _++_, List·Memᴰ, List·Memᴰ·not-nil, List·Memᴰ·cases-cons}
 use mathlib.Core.Logic.{⊎-elim}
@@ -10,27 +10,37 @@ use native.Mathlib.Omega.{arith}
 use Rattle.block.specs.declared.Refusal.{Refusal}
 use Rattle.block.specs.declared.Verdict.{Verdict}
 use Rattle.block.specs.declared.Verdict.the-variants.{Accepted, Refused}
-use Rattle.block.specs.Verdict.{Check, check, refusal, verdict}
+use Rattle.block.specs.Verdict.{Check, check, refusal, verdict, also}
 
 -- No verdict is both.
 pub apart : {P : Type 0} (r : Refusal) → Refused r ≡ Accepted → P
 apart r e = absurd (let z : _≡_ {A = ℕ} 0 1 = cc in omega arith)
 
--- Check by check, as code goes.
-
-pub passes : (number place : ℕ) {b : Bool} (rest : List Check) {v : Verdict} → b ≡ true → v ≡ verdict rest
-    → v ≡ verdict (check number place b ∷ rest)
-unfolding verdict
-passes number place rest t e = rw t e
-
-pub fails : (number place : ℕ) {b : Bool} (rest : List Check) {v : Verdict} → b ≡ false → v ≡ Refused (refusal number place)
-    → v ≡ verdict (check number place b ∷ rest)
-unfolding verdict
-fails number place rest t e = rw t e
-
 pub all-passed : Accepted ≡ verdict []
 unfolding verdict
 all-passed = refl
+
+-- Check by check, as code goes: the verdict on one check more.
+
+verdict-also : (checks : List Check) (c : Check) → verdict (checks ++ (c ∷ [])) ≡ also (verdict checks) c
+unfolding verdict also
+verdict-also [] (check number place true) = refl
+verdict-also [] (check number place false) = refl
+verdict-also (check number place true ∷ checks) c = verdict-also checks c
+verdict-also (check number place false ∷ checks) c = refl
+
+pub more : (checks : List Check) (c : Check) {v w : Verdict} → v ≡ verdict checks → w ≡ also v c → w ≡ verdict (checks ++ (c ∷ []))
+more checks c e f = f ∙ ap (λ u. also u c) e ∙ sym (verdict-also checks c)
+
+-- The same where the code's own test s of a check is the definition's t.
+pub more-by : (checks : List Check) (number place : ℕ) {s t : Bool} {v w : Verdict} → v ≡ verdict checks → w ≡ also v (check number place s) → s ≡ t
+    → w ≡ verdict (checks ++ (check number place t ∷ []))
+more-by checks number place {t = t} {v = v} e f same = more checks (check number place t) e (f ∙ ap (λ b. also v (check number place b)) same)
+
+-- A check that passes leaves the verdict accepted.
+pub stays-accepted : (number place : ℕ) {b : Bool} → b ≡ true → Accepted ≡ also Accepted (check number place b)
+unfolding also
+stays-accepted number place t = rw t refl
 
 -- A list that goes on after another: the first one's refusal stands, and its acceptance leaves the verdict to the second.
 

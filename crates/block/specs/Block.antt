@@ -1,5 +1,5 @@
 -- What is made of a block's records: arrivals and the frame (document 01, "The block file"), the fan-out cone of an input ("Search")
--- and the quiet tick ("Envelope").
+-- and the settling tick (for the quiet tick of "Envelope").
 use Prim.Native.Nat.{ℕ, _+_, _-_, _*_}
 use mathlib.Core.Bool.{Bool, false, cond, _||_}
 use mathlib.Core.List.{List, [], _∷_, Forall₂}
@@ -9,20 +9,24 @@ use Rattle.laws.specs.Below.{anyBelow, maxBelow, countBelow}
 use Rattle.laws.specs.Turn.{inTurn, listBelow}
 use Rattle.excitation.specs.declared.Excitation.{Excitation}
 use Rattle.excitation.specs.UncertaintySet.{UncertaintySet, _∈_, decode, size}
-use Rattle.block.specs.Record.{File, netCount, isInput, delay, pinCount, pin, rise, fall, allowed}
+use Rattle.block.specs.declared.Gate.{Gate}
+use Rattle.block.specs.Record.{File, netCount, isInput, allowed}
+use Rattle.block.specs.View.{gateOf, pinOf}
 
 -- The tick at which an input switches: at tick 0 it has its excitation.
-abbrev pub switchingTick : File → ℕ → ℕ
+unfoldable pub switchingTick : File → ℕ → ℕ
 switchingTick file net = 0
 
 -- The greatest arrival of a gate's pins, from the arrivals of the nets below it.
-unfoldable pub latestPin : File → List ℕ → ℕ → ℕ
-latestPin file below net = maxBelow (pinCount file net) (λ p. getD below (pin file net p) 0)
+unfoldable pub latestPin : Gate → List ℕ → ℕ
+latestPin gate below = maxBelow (gate .used) (λ p. getD below (pinOf gate p) 0)
 
 -- Document 01's arrival of a net, from the arrivals of the nets below it: 0 for an input; for a gate the greatest arrival of its
 -- pins plus D.
 unfoldable pub arrivalFrom : File → List ℕ → ℕ → ℕ
-arrivalFrom file below net = cond (isInput file net) (switchingTick file net) (latestPin file below net + delay file net)
+arrivalFrom file below net =
+    let gate = gateOf file net in
+    cond (isInput file net) (switchingTick file net) (latestPin gate below + gate .delay)
 
 -- The arrivals of the first n nets, and the arrival of a net.
 unfoldable pub arrivals : File → ℕ → List ℕ
@@ -55,8 +59,11 @@ abbrev pub patternCount : File → ℕ
 patternCount file = choiceCount (frame file)
 
 -- Whether a net feeds a gate, directly or through others, given which nets below the gate it feeds.
+unfoldable pub feeds : ℕ → List Bool → Gate → Bool
+feeds source below gate = anyBelow (gate .used) (λ p. eqb (pinOf gate p) source || getD below (pinOf gate p) false)
+
 unfoldable pub fedFrom : File → ℕ → List Bool → ℕ → Bool
-fedFrom file source below gate = anyBelow (pinCount file gate) (λ p. eqb (pin file gate p) source || getD below (pin file gate p) false)
+fedFrom file source below net = feeds source below (gateOf file net)
 
 -- How many gates stand in document 01's fan-out cone of a net: gates it feeds, directly or through others, each counted once.
 unfoldable pub coneSize : File → ℕ → ℕ
@@ -64,9 +71,12 @@ coneSize file source =
     let fed = inTurn (fedFrom file source) (netCount file) in
     countBelow (netCount file) (λ gate. getD fed gate false)
 
--- Document 01's quiet tick: the greatest arrival − D + r + f of a gate, 0 without gates.
-unfoldable pub quietTick : File → ℕ
-quietTick file =
+-- The tick at which the last pulse of a gate ends, by its arrival: arrival − D + r + f.
+unfoldable pub lastPulseEnd : Gate → ℕ → ℕ
+lastPulseEnd gate arrival = arrival - gate .delay + gate .rise + gate .fall
+
+-- The settling tick of a block, after which no pulse is left: the greatest arrival − D + r + f of a gate, 0 without gates.
+unfoldable pub settlingTick : File → ℕ
+settlingTick file =
     let times = arrivals file (netCount file) in
-    maxBelow (netCount file)
-    (λ net. cond (isInput file net) 0 (getD times net 0 - delay file net + rise file net + fall file net))
+    maxBelow (netCount file) (λ net. cond (isInput file net) 0 (lastPulseEnd (gateOf file net) (getD times net 0)))

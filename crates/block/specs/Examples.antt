@@ -8,7 +8,7 @@ use Rattle.block.specs.declared.ReadAnswer.the-variants as answer
 use Rattle.block.specs.Record.{File, contact, peakLh, peakHl}
 use Rattle.block.specs.Kind.{NAND, NOR, XNOR, ruleOf}
 use Rattle.block.specs.Gate.{gateExcitation, gateSet}
-use Rattle.block.specs.Block.{arrivals, frame, patternCount, coneSize, quietTick}
+use Rattle.block.specs.Block.{arrivals, frame, patternCount, coneSize, settlingTick}
 use Rattle.block.specs.Verdict.{refusal}
 use Rattle.block.specs.Refusals.{readOf}
 
@@ -66,10 +66,10 @@ pub record BlockExamples : Type 0 where
   pub cones-F : (coneSize blockF 0 ≡ 2) × (coneSize blockF 1 ≡ 1)
   -- Net 0 feeds net 5 on two ways.
   pub cones-R : (coneSize blockR 0 ≡ 3) × (coneSize blockR 2 ≡ 0)
-  -- Quiet ticks.
-  pub quiet-S : quietTick blockS ≡ 2
-  pub quiet-F : quietTick blockF ≡ 5
-  pub quiet-R : quietTick blockR ≡ 13
+  -- Settling ticks.
+  pub settling-S : settlingTick blockS ≡ 2
+  pub settling-F : settlingTick blockF ≡ 5
+  pub settling-R : settlingTick blockR ≡ 13
   -- The final result is turned over, and no join on the way.
   pub nand-of-three : gateExcitation (ruleOf NAND) h (h ∷ h ∷ []) ≡ l
   pub nor-of-three : gateExcitation (ruleOf NOR) l (l ∷ l ∷ []) ≡ h

@@ -1,4 +1,5 @@
 pub mod Record
+pub mod Limits
 pub mod View
 pub mod Kind
 pub mod Block
@@ -6,6 +7,5 @@ pub mod Verdict
 pub mod Refusals
 pub mod Read
 pub mod Accepted
-pub mod Numbers
 pub mod Gate
 pub mod Examples

@@ -24,14 +24,17 @@ zeroBytes file net k n = allBelow n (λ i. eqb (byteAt file net (k + i)) 0)
 
 -- The refusals in document 01's words. Each test passes where its refusal does not hold.
 
+-- 3. There is no record, or the first kind is not 1.
+unfoldable pub startsWithInput : File → Bool
+startsWithInput file = leb 1 (netCount file) && isInput file 0
+
 -- 1. The length is not a multiple of 20.
 -- 2. There are more than 1,024 records.
--- 3. There is no record, or the first kind is not 1.
 unfoldable pub fileChecks : File → List Check
 fileChecks file =
     check 1 0 (eqb (length file % 20) 0)
     ∷ check 2 0 (leb (netCount file) 1024)
-    ∷ check 3 0 (leb 1 (netCount file) && isInput file 0)
+    ∷ check 3 0 (startsWithInput file)
     ∷ []
 
 -- 4. The kind is 0 or above 9.
@@ -63,10 +66,10 @@ gateSpareZero file net = unusedPinsZero file net && zeroBytes file net 18 2
 unfoldable pub pinsBelow : File → ℕ → Bool
 pinsBelow file net = allBelow (pinCount file net) (λ p. ltb (pin file net p) net)
 
--- 9. A gate's contact, delay, rise or fall, or an input's byte 18 (1 to 15), is outside its range.
-unfoldable pub gateInRange : File → ℕ → Bool
-gateInRange file net =
-    within 0 15 (contact file net) && (within 1 63 (delay file net) && (within 1 127 (rise file net) && within 1 127 (fall file net)))
+-- 9. A gate's contact, delay, rise or fall, or an input's byte 18 (1 to 15), is outside its range. The four of a gate are given as
+-- numbers.
+unfoldable pub gateInRange : ℕ → ℕ → ℕ → ℕ → Bool
+gateInRange contact delay rise fall = within 0 15 contact && (within 1 63 delay && (within 1 127 rise && within 1 127 fall))
 
 unfoldable pub inputInRange : File → ℕ → Bool
 inputInRange file net = within 1 15 (allowed file net)
@@ -88,7 +91,7 @@ gateChecks file net =
     check 6 net (pinCountRight file net)
     ∷ check 7 net (gateSpareZero file net)
     ∷ check 8 net (pinsBelow file net)
-    ∷ check 9 net (gateInRange file net)
+    ∷ check 9 net (gateInRange (contact file net) (delay file net) (rise file net) (fall file net))
     ∷ []
 
 -- The checks on a record, 4 to 10.

@@ -19,3 +19,9 @@ unfoldable pub verdict : List Check → Verdict
 verdict [] = Accepted
 verdict (check number place true ∷ rest) = verdict rest
 verdict (check number place false ∷ rest) = Refused (refusal number place)
+
+-- One check more: a refusal stands; an acceptance leaves the verdict to the check.
+unfoldable pub also : Verdict → Check → Verdict
+also (Refused r) c = Refused r
+also Accepted (check number place true) = Accepted
+also Accepted (check number place false) = Refused (refusal number place)

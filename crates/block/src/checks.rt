@@ -1,40 +1,20 @@
 // Checks 4 to 9, on the fields of one record.
 ghost use mathlib.Core.Path.{_≡_};
 ghost use Prim.Native.Nat.{_+_, _≤_};
-ghost use Rattle.block.specs.declared.Verdict.the-variants.{Refused};
-ghost use Rattle.block.specs.Record.{HasRecord, pinCount};
+ghost use Rattle.block.specs.Record.{HasRecord, contact, delay, pinCount, rise, fall};
 ghost use Rattle.block.specs.Block.{inputsBelow};
-ghost use Rattle.block.specs.Verdict.{refusal, verdict};
-ghost use Rattle.block.specs.Refusals.{within, zeroBytes, inputSpareZero, unusedPinsZero, gateSpareZero, pinCountRight, pinsBelow, gateInRange, inputChecks, gateChecks, fieldChecks};
+ghost use Rattle.block.specs.Verdict.{verdict};
+ghost use Rattle.block.specs.Refusals.{within, zeroBytes, startsWithInput, inputSpareZero, unusedPinsZero, gateSpareZero, pinCountRight, pinsBelow, gateInRange, inputChecks, gateChecks, fieldChecks};
 use super::Net;
-use super::Refusal;
 use super::Verdict;
 use super::kind;
 use super::record;
-
-// The verdict that refuses, with document 01's number and place.
-pub fn refused(number: u64, place: u64) -> Verdict
-    ensures { λ r. ⌜ r ≡ Refused (refusal number place) ⌝ }
-{
-    Verdict::Refused(Refusal { number, place })
-}
-
-// The verdict that refuses the record of a net.
-pub fn refused_net(number: u64, net: Net) -> Verdict
-    ensures { λ r. ⌜ r ≡ Refused (refusal number (net .0)) ⌝ }
-{
-    let place = net.0;
-    refused(number, place as u64)
-}
 
 // Whether x is low to high.
 pub fn in_range(x: usize, low: usize, high: usize) -> bool
     ensures { λ r. ⌜ r ≡ within low high x ⌝ }
 {
-    if x < low {
-        return false;
-    }
-    x <= high
+    (low <= x) & (x <= high)
 }
 
 // Whether the n bytes from byte k of a record on are 0.
@@ -52,6 +32,16 @@ fn zero_bytes(file: &[u8], net: Net, k: usize, n: usize) -> bool
     true
 }
 
+// Check 3.
+pub fn starts_with_input(file: &[u8]) -> bool
+    ensures { λ r. ⌜ r ≡ startsWithInput (now (file .entry)) ⌝ }
+{
+    if file.len() / 20 < 1 {
+        return false;
+    }
+    record::kind(file, Net(0)) == 1
+}
+
 // Check 6.
 fn pin_count_right(file: &[u8], net: Net) -> bool
     requires { ⌜ HasRecord (now file) (net .0) ⌝ }
@@ -66,10 +56,7 @@ fn input_spare_zero(file: &[u8], net: Net) -> bool
     requires { ⌜ HasRecord (now file) (net .0) ⌝ }
     ensures { λ r. ⌜ r ≡ inputSpareZero (now (file .entry)) (net .0) ⌝ }
 {
-    if !zero_bytes(file, net, 1, 17) {
-        return false;
-    }
-    zero_bytes(file, net, 19, 1)
+    zero_bytes(file, net, 1, 17) & zero_bytes(file, net, 19, 1)
 }
 
 // Whether the unused pins of a gate are 0.
@@ -95,10 +82,7 @@ fn gate_spare_zero(file: &[u8], net: Net) -> bool
     requires { ⌜ HasRecord (now file) (net .0) × (pinCount (now file) (net .0) ≤ 4) ⌝ }
     ensures { λ r. ⌜ r ≡ gateSpareZero (now (file .entry)) (net .0) ⌝ }
 {
-    if !unused_pins_zero(file, net) {
-        return false;
-    }
-    zero_bytes(file, net, 18, 2)
+    unused_pins_zero(file, net) & zero_bytes(file, net, 18, 2)
 }
 
 // Check 8.
@@ -118,21 +102,25 @@ fn pins_below(file: &[u8], net: Net) -> bool
     true
 }
 
-// Check 9 of a gate.
-fn gate_in_range(file: &[u8], net: Net) -> bool
-    requires { ⌜ HasRecord (now file) (net .0) ⌝ }
-    ensures { λ r. ⌜ r ≡ gateInRange (now (file .entry)) (net .0) ⌝ }
+// Check 9 of a gate, on its contact, delay, rise and fall.
+pub fn gate_in_range(contact: usize, delay: usize, rise: usize, fall: usize) -> bool
+    ensures { λ r. ⌜ r ≡ gateInRange contact delay rise fall ⌝ }
 {
-    if !in_range(record::contact(file, net), 0, 15) {
-        return false;
-    }
-    if !in_range(record::delay(file, net), 1, 63) {
-        return false;
-    }
-    if !in_range(record::rise(file, net), 1, 127) {
-        return false;
-    }
-    in_range(record::fall(file, net), 1, 127)
+    in_range(contact, 0, 15)
+        & (in_range(delay, 1, 63) & (in_range(rise, 1, 127) & in_range(fall, 1, 127)))
+}
+
+// Check 9 on the record of a gate.
+fn record_in_range(file: &[u8], net: Net) -> bool
+    requires { ⌜ HasRecord (now file) (net .0) ⌝ }
+    ensures { λ r. ⌜ r ≡ gateInRange (contact (now (file .entry)) (net .0)) (delay (now (file .entry)) (net .0)) (rise (now (file .entry)) (net .0)) (fall (now (file .entry)) (net .0)) ⌝ }
+{
+    gate_in_range(
+        record::contact(file, net),
+        record::delay(file, net),
+        record::rise(file, net),
+        record::fall(file, net),
+    )
 }
 
 // Checks 5, 7 and 9 of an input, given how many inputs stand below it.
@@ -140,39 +128,27 @@ fn check_input(file: &[u8], net: Net, inputs: usize) -> Verdict
     requires { ⌜ HasRecord (now file) (net .0) × (inputs ≡ inputsBelow (now file) (net .0)) ⌝ }
     ensures { λ r. ⌜ r ≡ verdict (inputChecks (now (file .entry)) (net .0)) ⌝ }
 {
-    if inputs != net.0 {
-        return refused_net(5, net);
-    }
-    if 64 <= inputs {
-        return refused_net(5, net);
-    }
-    if !input_spare_zero(file, net) {
-        return refused_net(7, net);
-    }
-    if !in_range(record::allowed(file, net), 1, 15) {
-        return refused_net(9, net);
-    }
+    let place = net.0 as u64;
     Verdict::Accepted
+        .also(5, place, (inputs == net.0) & (inputs < 64))
+        .also(7, place, input_spare_zero(file, net))
+        .also(9, place, in_range(record::allowed(file, net), 1, 15))
 }
 
-// Checks 6 to 9 of a gate.
+// Checks 6 to 9 of a gate. Only a right pin count lets its pins be read.
 fn check_gate(file: &[u8], net: Net) -> Verdict
     requires { ⌜ HasRecord (now file) (net .0) ⌝ }
     ensures { λ r. ⌜ r ≡ verdict (gateChecks (now (file .entry)) (net .0)) ⌝ }
 {
-    if !pin_count_right(file, net) {
-        return refused_net(6, net);
+    let place = net.0 as u64;
+    let counted = Verdict::Accepted.also(6, place, pin_count_right(file, net));
+    match counted {
+        Verdict::Refused(r) => Verdict::Refused(r),
+        Verdict::Accepted => counted
+            .also(7, place, gate_spare_zero(file, net))
+            .also(8, place, pins_below(file, net))
+            .also(9, place, record_in_range(file, net)),
     }
-    if !gate_spare_zero(file, net) {
-        return refused_net(7, net);
-    }
-    if !pins_below(file, net) {
-        return refused_net(8, net);
-    }
-    if !gate_in_range(file, net) {
-        return refused_net(9, net);
-    }
-    Verdict::Accepted
 }
 
 // Checks 4 to 9, given how many inputs stand below the net.
@@ -181,11 +157,14 @@ pub fn check_fields(file: &[u8], net: Net, inputs: usize) -> Verdict
     ensures { λ r. ⌜ r ≡ verdict (fieldChecks (now (file .entry)) (net .0)) ⌝ }
 {
     let kind = record::kind(file, net);
-    if !in_range(kind, 1, 9) {
-        return refused_net(4, net);
+    match Verdict::Accepted.also(4, net.0 as u64, in_range(kind, 1, 9)) {
+        Verdict::Refused(r) => Verdict::Refused(r),
+        Verdict::Accepted => {
+            if kind == 1 {
+                check_input(file, net, inputs)
+            } else {
+                check_gate(file, net)
+            }
+        }
     }
-    if kind == 1 {
-        return check_input(file, net, inputs);
-    }
-    check_gate(file, net)
 }

@@ -1,12 +1,11 @@
 // The block file: its records, what a gate's kind decides, and the reader.
 ghost use mathlib.Core.Path.{_≡_};
-ghost use Prim.Native.Nat.{_*_, _≤_, _<_, max};
+ghost use Prim.Native.Nat.{_*_, _≤_, _<_};
 ghost use lib.ListN.{length};
 ghost use Rattle.laws.specs.Rewritten.{Rewritten};
 ghost use Rattle.block.specs.Record.{allowed};
-ghost use Rattle.block.specs.Verdict.{refusal};
-ghost use Rattle.block.specs.declared.ReadAnswer.the-variants.{Refused};
-ghost use Rattle.block.specs.Refusals.{readOf};
+ghost use Rattle.block.specs.Verdict.{check, verdict, also};
+ghost use Rattle.block.specs.Refusals.{fileChecks, readOf};
 
 mod checks;
 mod kind;
@@ -14,8 +13,8 @@ mod reader;
 pub mod record;
 pub mod view;
 
+pub use checks::gate_in_range;
 pub use checks::in_range;
-pub use checks::refused;
 pub use kind::Rule;
 pub use kind::gate_rule;
 
@@ -62,52 +61,49 @@ pub enum Verdict {
     Refused(Refusal),
 }
 
+impl Verdict {
+    // One check more: a refusal stands, and an acceptance leaves the verdict to the check.
+    pub fn also(self, number: u64, place: u64, passes: bool) -> Verdict
+        ensures { λ r. ⌜ r ≡ also self (check number place passes) ⌝ }
+    {
+        match self {
+            Verdict::Refused(r) => Verdict::Refused(r),
+            Verdict::Accepted => {
+                if passes {
+                    Verdict::Accepted
+                } else {
+                    Verdict::Refused(Refusal { number, place })
+                }
+            }
+        }
+    }
+}
+
 // What Read answers.
 pub enum ReadAnswer {
     Counts { nets: u64, inputs: u64 },
     Refused(Refusal),
 }
 
-// A byte as a number.
-pub fn wide(x: u8) -> usize
-    ensures { λ r. ⌜ (r ≡ x) × (r < 256) ⌝ }
+// Checks 1 to 3, on the whole file.
+fn check_file(file: &[u8]) -> Verdict
+    ensures { λ r. ⌜ r ≡ verdict (fileChecks (now (file .entry))) ⌝ }
 {
-    x as usize
-}
-
-// The greater of two numbers.
-pub fn greater(a: usize, b: usize) -> usize
-    ensures { λ r. ⌜ r ≡ max a b ⌝ }
-{
-    if a < b { b } else { a }
-}
-
-// The refusal of a whole file, at place 0.
-fn refused_file(number: u64) -> ReadAnswer
-    ensures { λ r. ⌜ r ≡ Refused (refusal number 0) ⌝ }
-{
-    ReadAnswer::Refused(Refusal { number, place: 0 })
+    let length = file.len();
+    Verdict::Accepted
+        .also(1, 0, length % 20 == 0)
+        .also(2, 0, length / 20 <= 1024)
+        .also(3, 0, checks::starts_with_input(file))
 }
 
 // Read: checks 1 to 10, and the counts of nets and inputs.
 pub fn read(file: &[u8]) -> ReadAnswer
     ensures { λ r. ⌜ r ≡ readOf (now (file .entry)) ⌝ }
 {
-    let length = file.len();
-    if length % 20 != 0 {
-        return refused_file(1);
+    match check_file(file) {
+        Verdict::Refused(r) => ReadAnswer::Refused(r),
+        Verdict::Accepted => reader::check_records(file, file.len() / 20),
     }
-    let nets = length / 20;
-    if 1024 < nets {
-        return refused_file(2);
-    }
-    if nets < 1 {
-        return refused_file(3);
-    }
-    if record::kind(file, Net(0)) != 1 {
-        return refused_file(3);
-    }
-    reader::check_records(file, nets)
 }
 
 // Writes the codes of the frame's sets, a byte for each input.

@@ -2,7 +2,7 @@
 ghost use mathlib.Core.Path.{_≡_};
 ghost use Prim.Native.Nat.{_<_, _≤_};
 ghost use lib.ListN.{take};
-ghost use Rattle.laws.specs.Below.{digit};
+ghost use Rattle.laws.specs.Below.{indicator};
 ghost use Rattle.block.specs.declared.Verdict.the-variants.{Accepted};
 ghost use Rattle.block.specs.Record.{HasRecord, netCount, isInput};
 ghost use Rattle.block.specs.Block.{latestPin, arrivalFrom};
@@ -10,18 +10,17 @@ ghost use Rattle.block.specs.Verdict.{verdict};
 ghost use Rattle.block.specs.Refusals.{fieldChecks, recordsFrom, answerTo};
 ghost use Rattle.block.specs.Accepted.{GateRecord};
 ghost use Rattle.block.specs.Read.{Known, RecordChecked};
+ghost use Rattle.block.specs.View.{gateOf};
 use super::Net;
 use super::ReadAnswer;
 use super::Verdict;
 use super::checks;
-use super::greater;
 use super::record;
-use super::wide;
 
 // The greatest arrival of a gate's pins.
 fn latest_pin(file: &[u8], net: Net, earlier: &[u8; 1024]) -> usize
-    requires { ⌜ HasRecord (now file) (net .0) × GateRecord (now file) (net .0) ⌝ }
-    ensures { λ r. ⌜ (r ≡ latestPin (now (file .entry)) (take (net .0) (now (earlier .entry))) (net .0)) × (r < 256) ⌝ }
+    requires { ⌜ HasRecord (now file) (net .0) × GateRecord (net .0) (gateOf (now file) (net .0)) ⌝ }
+    ensures { λ r. ⌜ (r ≡ latestPin (gateOf (now (file .entry)) (net .0)) (take (net .0) (now (earlier .entry)))) × (r < 256) ⌝ }
 {
     let pins = record::pin_count(file, net);
     let mut latest: usize = 0;
@@ -29,7 +28,7 @@ fn latest_pin(file: &[u8], net: Net, earlier: &[u8; 1024]) -> usize
     while p < pins {
         let source = record::pin(file, net, p);
         let at = source.0;
-        latest = greater(latest, wide(earlier[at]));
+        latest = numbers::max_usize(latest, numbers::usize_from_u8(earlier[at]));
         p += 1;
     }
     latest
@@ -41,7 +40,7 @@ fn arrival(file: &[u8], net: Net, earlier: &[u8; 1024]) -> usize
     ensures { λ r. ⌜ r ≡ arrivalFrom (now (file .entry)) (take (net .0) (now (earlier .entry))) (net .0) ⌝ }
 {
     if record::kind(file, net) == 1 {
-        return wide(record::switching_tick(file, net));
+        return numbers::usize_from_u8(record::switching_tick(file, net));
     }
     let latest = latest_pin(file, net, earlier);
     latest + record::delay(file, net)
@@ -57,18 +56,15 @@ fn check_record(file: &[u8], net: Net, inputs: usize, arrivals: &mut [u8; 1024])
         return Verdict::Refused(r);
     }
     let a = arrival(file, net, arrivals);
-    if 255 < a {
-        return checks::refused_net(10, net);
-    }
     let at = net.0;
     arrivals[at] = (a % 256) as u8;
-    Verdict::Accepted
+    fields.also(10, at as u64, a <= 255)
 }
 
 // 1 for an input, 0 for a gate.
-fn input_digit(file: &[u8], net: Net) -> usize
+fn input_indicator(file: &[u8], net: Net) -> usize
     requires { ⌜ HasRecord (now file) (net .0) ⌝ }
-    ensures { λ r. ⌜ (r ≡ digit (isInput (now (file .entry)) (net .0))) × (r ≤ 1) ⌝ }
+    ensures { λ r. ⌜ (r ≡ indicator (isInput (now (file .entry)) (net .0))) × (r ≤ 1) ⌝ }
 {
     if record::kind(file, net) == 1 { 1 } else { 0 }
 }
@@ -86,7 +82,7 @@ pub fn check_records(file: &[u8], nets: usize) -> ReadAnswer
         if let Verdict::Refused(r) = checked {
             return ReadAnswer::Refused(r);
         }
-        inputs += input_digit(file, Net(net));
+        inputs += input_indicator(file, Net(net));
         net += 1;
     }
     ReadAnswer::Counts {

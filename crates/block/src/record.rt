@@ -2,12 +2,12 @@
 ghost use mathlib.Core.Path.{_≡_};
 ghost use Prim.Native.Nat.{_<_};
 ghost use Rattle.block.specs.Block.{switchingTick};
+ghost use Rattle.block.specs.Limits.{peakLimit};
 ghost use Rattle.block.specs.Record.{HasRecord, byteAt, wordAt, kind, contact, delay, pinCount, pin, rise, fall, peakLh, peakHl, allowed};
 ghost use Rattle.block.specs.View.{GateRead};
 use super::Gate;
 use super::Net;
 use super::Peaks;
-use super::wide;
 
 // Byte k of the record of a net.
 pub fn byte(file: &[u8], net: Net, k: usize) -> usize
@@ -15,7 +15,7 @@ pub fn byte(file: &[u8], net: Net, k: usize) -> usize
     ensures { λ r. ⌜ (r ≡ byteAt (now (file .entry)) (net .0) k) × (r < 256) ⌝ }
 {
     let start = net.start();
-    wide(file[start + k])
+    numbers::usize_from_u8(file[start + k])
 }
 
 // The two-byte number at byte k, the low byte first.
@@ -78,14 +78,14 @@ pub fn fall(file: &[u8], net: Net) -> usize
 
 pub fn peak_lh(file: &[u8], net: Net) -> usize
     requires { ⌜ HasRecord (now file) (net .0) ⌝ }
-    ensures { λ r. ⌜ (r ≡ peakLh (now (file .entry)) (net .0)) × (r < 65536) ⌝ }
+    ensures { λ r. ⌜ (r ≡ peakLh (now (file .entry)) (net .0)) × (r < peakLimit) ⌝ }
 {
     word(file, net, 14)
 }
 
 pub fn peak_hl(file: &[u8], net: Net) -> usize
     requires { ⌜ HasRecord (now file) (net .0) ⌝ }
-    ensures { λ r. ⌜ (r ≡ peakHl (now (file .entry)) (net .0)) × (r < 65536) ⌝ }
+    ensures { λ r. ⌜ (r ≡ peakHl (now (file .entry)) (net .0)) × (r < peakLimit) ⌝ }
 {
     word(file, net, 16)
 }

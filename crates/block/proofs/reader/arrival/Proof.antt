@@ -3,6 +3,7 @@
 use mathlib.Core.Path.{refl, sym, _∙_}
 use borrow.Author.Needs.{needs}
 use Rattle.block.specs.Block.{arrivalFrom}
+use Rattle.block.specs.View.{gateOf}
 use Rattle.block.proofs.Fields.{is-input, is-gate, gate-record}
 use Rattle.block.proofs.reader.arrival.Tie as tie
 use Rattle.block.proofs.reader.arrival.Statement.{statement}
@@ -13,12 +14,12 @@ kind-requires c κs = search needs
 switching-tick-requires : tie.Need-switching-tick-requires
 switching-tick-requires c κs = search needs
 
-wide-requires : tie.Need-wide-requires
-wide-requires c κs = search needs
+usize-from-u8-requires : tie.Need-usize-from-u8-requires
+usize-from-u8-requires c κs = search needs
 
 returns : tie.Need-returns
 unfolding arrivalFrom
-returns c = rw (is-input _ _ (sym (c .before .before .before .kind .ensures .0) ∙ c .before .before .if1 .taken)) (c .wide .ensures .0 ∙ c .before .switching-tick .ensures)
+returns c = rw (is-input _ _ (sym (c .before .before .before .kind .ensures .0) ∙ c .before .before .if1 .taken)) (c .usize-from-u8 .ensures .0 ∙ c .before .switching-tick .ensures)
 
 latest-pin-requires : tie.Need-latest-pin-requires
 latest-pin-requires c κs = (search needs, gate-record _ _ (c .before .before .before .pre .1) (is-gate _ _ (λ e. c .if1 .left (c .before .kind .ensures .0 ∙ e))))
@@ -30,7 +31,7 @@ add-result : tie.Need-add-result
 add-result c = search needs
 
 returns-2 : tie.Need-returns-2
-unfolding arrivalFrom
+unfolding arrivalFrom gateOf
 returns-2 c =
     let start = c .before .before .before .before .before in
     let gate = is-gate (start .args .file .now) (start .args .net .0) (λ e. c .before .before .if1 .left (c .before .before .before .kind .ensures .0 ∙ e)) in
@@ -39,4 +40,4 @@ returns-2 c =
 pub arrival-spec : {M : Type 1} → statement M
 arrival-spec =
     tie.close
-    (tie.spec kind-requires switching-tick-requires wide-requires returns latest-pin-requires delay-requires add-result returns-2)
+    (tie.spec kind-requires switching-tick-requires usize-from-u8-requires returns latest-pin-requires delay-requires add-result returns-2)

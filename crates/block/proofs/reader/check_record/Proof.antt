@@ -6,10 +6,11 @@ use native.Mathlib.Omega.{arith}
 use lib.ListN.{length-set}
 use borrow.Author.Needs.{needs}
 use Rattle.block.specs.Block.{arrivalFrom, arrival}
+use Rattle.block.proofs.Accepted.{arrival-in-time}
 use Rattle.block.proofs.Verdicts.{apart}
-use Rattle.block.proofs.Records.{fields-refused, arrives-late, record-passes, arrived-next}
-use Rattle.block.proofs.reader.check_record.Tie as tie
+use Rattle.block.proofs.Records.{fields-refused, record-judged, arrived-next}
 use Rattle.block.proofs.reader.check_record.Statement.{statement}
+use Rattle.block.proofs.reader.check_record.Tie as tie
 
 check-fields-requires : tie.Need-check-fields-requires
 check-fields-requires c κs = search needs
@@ -28,38 +29,28 @@ enum-told c = search needs
 arrival-requires : tie.Need-arrival-requires
 arrival-requires c κs = (search needs, sym (c .before .before .before .check-fields .ensures) ∙ c .before .enum-told .given .1)
 
-refused-net-requires : tie.Need-refused-net-requires
-refused-net-requires c κs = search needs
-
-returns-2 : tie.Need-returns-2
-returns-2 c =
-    let start = c .before .before .before .before .before .before .before .before in
-    let passed = sym (c .before .before .before .before .before .before .check-fields .ensures) ∙ c .before .before .before .before .enum-told .given .1 in
-    let a : c .before .before .arrival .result ≡ arrival (start .args .file .now) (start .args .net .0) =
-    c .before .before .arrival .ensures ∙ ap (λ e. arrivalFrom (start .args .file .now) e (start .args .net .0)) (start .pre .1 .arrived) in
-    record {
-      judged = c .refused-net .ensures ∙ sym (arrives-late _ _ passed (rw a at (c .before .if1 .taken)));
-      sized = start .pre .1 .sized;
-      arrived = λ e. apart _ (sym (c .refused-net .ensures) ∙ e);
-    }
-
 cast-arrivals : tie.Need-cast-arrivals
 cast-arrivals c = search needs
 
 element-write-arrivals : tie.Need-element-write-arrivals
 element-write-arrivals c = search needs
 
-returns-3 : tie.Need-returns-3
-returns-3 c =
+also-requires : tie.Need-also-requires
+also-requires c κs = search needs
+
+returns-2 : tie.Need-returns-2
+returns-2 c =
     let start = c .before .before .before .before .before .before .before in
-    let passed = sym (c .before .before .before .before .before .check-fields .ensures) ∙ c .before .before .before .enum-told .given .1 in
     let a : c .before .arrival .result ≡ arrival (start .args .file .now) (start .args .net .0) =
     c .before .arrival .ensures ∙ ap (λ e. arrivalFrom (start .args .file .now) e (start .args .net .0)) (start .pre .1 .arrived) in
-    let kept : c .before .arrival .result % 256 ≡ c .before .arrival .result = omega arith in
+    let judged = record-judged _ _ (c .before .before .before .before .before .check-fields .ensures) a (c .also .ensures) in
     record {
-      judged = sym (record-passes _ _ passed (rw a at (c .if1 .left)));
+      judged = judged;
       sized = simp length-set (start .pre .1 .sized);
-      arrived = λ e. arrived-next _ _ _ _ (omega arith) (start .pre .1 .arrived) (kept ∙ a);
+      arrived = λ e.
+          let in-time = arrival-in-time _ _ (sym judged ∙ e) in
+          let kept : c .before .arrival .result % 256 ≡ c .before .arrival .result = omega arith in
+          arrived-next _ _ _ _ (omega arith) (start .pre .1 .arrived) (kept ∙ a);
     }
 
 pub check-record-spec : {M : Type 1} → statement M
@@ -71,8 +62,7 @@ check-record-spec =
     returns
     enum-told
     arrival-requires
-    refused-net-requires
-    returns-2
     cast-arrivals
     element-write-arrivals
-    returns-3)
+    also-requires
+    returns-2)

@@ -45,8 +45,8 @@ returns c =
 enum-told : tie.Need-enum-told Inv-loop μ-loop
 enum-told c = search needs
 
-input-digit-requires : tie.Need-input-digit-requires Inv-loop μ-loop
-input-digit-requires c κs = search needs
+input-indicator-requires : tie.Need-input-indicator-requires Inv-loop μ-loop
+input-indicator-requires c κs = search needs
 
 add-inputs : tie.Need-add-inputs Inv-loop μ-loop
 add-inputs c = search needs
@@ -62,7 +62,7 @@ loop-again c =
     let l = c .before .before .before .before .before .before .loop in
     let checked = c .before .before .before .check-record .ensures in
     let told = c .before .enum-told .given .1 in
-    let counted = ap (λ n. l .inputs + n) (c .input-digit .ensures .0) ∙ counted-next _ _ _ (l .inv .2 .counted) in
+    let counted = ap (λ n. l .inputs + n) (c .input-indicator .ensures .0) ∙ counted-next _ _ _ (l .inv .2 .counted) in
     let within = c .before .before .before .before .before .loop-test .taken in
     let rest = records-next _ _ _ within (sym (checked .judged) ∙ told) ∙ l .inv .3 in
     (omega arith, omega arith, record { counted = counted; sized = checked .sized; arrived = checked .arrived told }, rest)
@@ -86,7 +86,7 @@ check-records-spec =
     enum-known-checked
     returns
     enum-told
-    input-digit-requires
+    input-indicator-requires
     add-inputs
     add-net
     loop-less

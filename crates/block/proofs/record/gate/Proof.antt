@@ -1,7 +1,7 @@
 -- `block::record::gate` meets its contract.
 -- Assumes nothing.
 use borrow.Author.Needs.{needs}
-use Rattle.block.proofs.Views.{pins-read}
+use Rattle.block.proofs.Views.{gate-is}
 use Rattle.block.proofs.record.gate.Statement.{statement}
 use Rattle.block.proofs.record.gate.Tie as tie
 
@@ -42,28 +42,19 @@ fall-requires : tie.Need-fall-requires
 fall-requires c κs = search needs
 
 returns : tie.Need-returns
-returns c =
-    let pin = c .before .before .before .before .before .before .before .before .before .before .before .pin in
-    let pin2 = c .before .before .before .before .before .before .before .before .before .before .pin2 in
-    let pin3 = c .before .before .before .before .before .before .before .before .before .pin3 in
-    let pin4 = c .before .before .before .before .before .before .before .before .pin4 in
-    record {
-      kind-is = search needs;
-      contact-is = search needs;
-      delay-is = search needs;
-      used-is = search needs;
-      pin-is = pins-read _ _ _ _ _ (pin .ensures) (pin2 .ensures) (pin3 .ensures) (pin4 .ensures);
-      rise-is = search needs;
-      fall-is = search needs;
-      peak-lh-is = search needs;
-      peak-hl-is = search needs;
-      contact-high = search needs;
-      delay-high = search needs;
-      rise-high = search needs;
-      fall-high = search needs;
-      peak-lh-high = search needs;
-      peak-hl-high = search needs;
-    }
+returns c = record {
+  is = gate-is _ _ (c .before .before .before .before .before .kind .ensures .0) (c .before .before .before .before .contact .ensures .0) (c .before .before .before .delay .ensures .0) (c .before .before .pin-count .ensures .0)
+      (c .before .before .before .before .before .before .before .before .before .before .before .pin .ensures) (c .before .before .before .before .before .before .before .before .before .before .pin2 .ensures) (c .before .before .before .before .before .before .before .before .before .pin3 .ensures) (c .before .before .before .before .before .before .before .before .pin4 .ensures)
+      (c .before .rise .ensures .0) (c .fall .ensures .0) (c .before .before .before .before .before .before .before .peak-lh .ensures .0) (c .before .before .before .before .before .before .peak-hl .ensures .0);
+  fits = record {
+    contact-high = search needs;
+    delay-high = search needs;
+    rise-high = search needs;
+    fall-high = search needs;
+    peak-lh-high = search needs;
+    peak-hl-high = search needs;
+  };
+}
 
 pub gate-spec : {M : Type 1} → statement M
 gate-spec =
