@@ -1,0 +1,3 @@
+pub mod Sizes
+pub mod Patterns
+pub mod Operations

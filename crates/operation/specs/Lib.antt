@@ -1,0 +1,4 @@
+pub mod Arguments
+pub mod Pattern
+pub mod Operation
+pub mod Numbers
