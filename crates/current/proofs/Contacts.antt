@@ -10,11 +10,12 @@ use lib.Dec.{eqb}
 use lib.ListN.{getD}
 use borrow.Table.Steps.{cases}
 use Rattle.laws.proofs.Below.{sum-at-most}
-use Rattle.block.specs.Record.{File, netCount, contact, isInput}
+use Rattle.block.specs.Record.{File, netCount, isInput}
+use Rattle.block.specs.View.{gateOf}
 use Rattle.current.specs.Current.{Transitions, gateCurrent, drawsAt, part, contactCurrent}
 
 part-where : (file : File) (transitions : List Transitions) (c t net : ℕ) (b : Bool) → drawsAt file c net ≡ b
-    → part file transitions c t net ≡ cond b (gateCurrent file net (getD transitions net (record { rises = []; falls = [] })) t) 0
+    → part file transitions c t net ≡ cond b (gateCurrent (gateOf file net) (getD transitions net (record { rises = []; falls = [] })) t) 0
 unfolding part
 part-where file transitions c t net true e = rw (e, part) refl
 part-where file transitions c t net false e = rw (e, part) refl
@@ -23,9 +24,9 @@ part-where file transitions c t net false e = rw (e, part) refl
 
 pub part-of-gate : (file : File) (transitions : List Transitions) (c t net : ℕ) → isInput file net ≡ false
     → part file transitions c t net
-    ≡ cond (eqb (contact file net) c) (gateCurrent file net (getD transitions net (record { rises = []; falls = [] })) t) 0
-unfolding drawsAt
-part-of-gate file transitions c t net gate = part-where file transitions c t net (eqb (contact file net) c) (rw gate refl)
+    ≡ cond (eqb (gateOf file net .contact) c) (gateCurrent (gateOf file net) (getD transitions net (record { rises = []; falls = [] })) t) 0
+unfolding drawsAt gateOf
+part-of-gate file transitions c t net gate = part-where file transitions c t net (eqb (gateOf file net .contact) c) (rw gate refl)
 
 pub part-of-input : (file : File) (transitions : List Transitions) (c t net : ℕ) → isInput file net ≡ true → part file transitions c t net ≡ 0
 unfolding drawsAt
@@ -33,14 +34,14 @@ part-of-input file transitions c t net input = part-where file transitions c t n
 
 module _ (file : File) (transitions transitions′ : List Transitions) (t : ℕ)
     (less : (net : ℕ) → net < netCount file → isInput file net ≡ false
-    → gateCurrent file net (getD transitions net (record { rises = []; falls = [] })) t
-    ≤ gateCurrent file net (getD transitions′ net (record { rises = []; falls = [] })) t) where
+    → gateCurrent (gateOf file net) (getD transitions net (record { rises = []; falls = [] })) t
+    ≤ gateCurrent (gateOf file net) (getD transitions′ net (record { rises = []; falls = [] })) t) where
   part-at-most : (c net : ℕ) → net < netCount file → part file transitions c t net ≤ part file transitions′ c t net
   part-at-most c net h =
       cases (isInput file net)
       (λ input. rw (part-of-input file transitions c t net input) (omega arith))
       (λ gate. rw (part-of-gate file transitions c t net gate, part-of-gate file transitions′ c t net gate)
-      (cases (eqb (contact file net) c) (λ b. rw b (less net h gate)) (λ b. rw b (le-refl 0))))
+      (cases (eqb (gateOf file net .contact) c) (λ b. rw b (less net h gate)) (λ b. rw b (le-refl 0))))
 
   pub contact-at-most : (c : ℕ) → contactCurrent file transitions c t ≤ contactCurrent file transitions′ c t
   unfolding contactCurrent

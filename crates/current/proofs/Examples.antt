@@ -4,10 +4,11 @@ use mathlib.Core.Path.{refl}
 use Rattle.laws.specs.Below.{maxBelow, sumBelow, countBelow}
 use Rattle.laws.specs.Turn.{inTurn, listBelow}
 use Rattle.excitation.specs.UncertaintySet.{member, decode, joinSets, each}
-use Rattle.block.specs.Block.{inputsBelow, frame}
+use Rattle.block.specs.Block.{switchingTick, inputsBelow, frame}
 use Rattle.block.specs.Gate.{gateValue}
 use Rattle.block.specs.Kind.{kindOf}
 use Rattle.block.specs.Record.{isInput}
+use Rattle.block.specs.View.{gateOf}
 use Rattle.fill.specs.Fill.{holding, ticksInside, fillTicks, setsHolding, filled}
 use Rattle.fill.specs.Runs.{extend, runsFrom, gapsAfter, gaps, shorter, shortest, close, closeFirst, closeShortest, closeWhile, merged, inside}
 use Rattle.waveform.specs.Waveform.{earlier, inputWaveform, gateFrom, pinWaveform, gateAt, gateWaveform, netWaveform, waveforms}
@@ -16,7 +17,7 @@ use Rattle.current.specs.Examples.{CurrentExamples}
 use Rattle.current.specs.Pulse.{levelAfter, pulse, pulseAt}
 
 pub current-examples : CurrentExamples
-unfolding maxBelow sumBelow countBelow inTurn listBelow member decode joinSets each isInput kindOf gateValue inputsBelow frame extend runsFrom gapsAfter gaps shorter shortest close closeFirst closeShortest closeWhile merged inside holding ticksInside fillTicks setsHolding filled earlier inputWaveform gateFrom pinWaveform gateAt gateWaveform netWaveform waveforms levelAfter pulse pulseAt ticksWhere greatestAt gateCurrent drawsAt part contactCurrent dropAt dropOf transitionsOf sheetOf
+unfolding maxBelow sumBelow countBelow inTurn listBelow member decode joinSets each isInput gateOf kindOf gateValue switchingTick inputsBelow frame extend runsFrom gapsAfter gaps shorter shortest close closeFirst closeShortest closeWhile merged inside holding ticksInside fillTicks setsHolding filled earlier inputWaveform gateFrom pinWaveform gateAt gateWaveform netWaveform waveforms levelAfter pulse pulseAt ticksWhere greatestAt gateCurrent drawsAt part contactCurrent dropAt dropOf transitionsOf sheetOf
 current-examples = record {
   pulse-31 = refl;
   pulse-7 = λ f. refl;

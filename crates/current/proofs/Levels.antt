@@ -4,6 +4,7 @@ use Prim.Native.Nat.{ℕ, _+_, _*_, _/_, _≤_, _<_}
 use mathlib.Core.Path.{_≡_}
 use native.Mathlib.Nat.{le-div-iff-mul-le, div-lt-iff-lt-mul, div-mul-le-self, lt-div-mul-add, mul-assoc, mul-comm, mul-le-mul, mul-le-mul-left, mul-le-mul-right}
 use native.Mathlib.Omega.{arith}
+use Rattle.block.specs.Limits.{peakLimit}
 use Rattle.current.specs.Levels.{factorOf, levelBy}
 use Rattle.current.specs.Pulse.{levelAfter}
 
@@ -45,18 +46,18 @@ module _ (x steps : ℕ) (small : x ≤ 8388608) (one : 1 ≤ steps) (few : step
 
 -- The products that the code makes fit.
 
-pub level-fits : {P j : ℕ} → P < 65536 → j < 128 → P * j ≤ 8388608
+pub level-fits : {P j : ℕ} → P < peakLimit → j < 128 → P * j ≤ 8388608
 level-fits {P} {j} h l =
     let a : P * j ≤ 65535 * 128 = mul-le-mul (let z : P ≤ 65535 = omega arith in z) (let z : j ≤ 128 = omega arith in z) in
     omega arith
 
-pub scaled-fits : {P j x factor : ℕ} → P < 65536 → j < 128 → x ≡ P * j → factor < 4294967296 → x * factor < 36028797018963968
+pub scaled-fits : {P j x factor : ℕ} → P < peakLimit → j < 128 → x ≡ P * j → factor < 4294967296 → x * factor < 36028797018963968
 scaled-fits {P} {j} {x} {factor} h l e n =
     let fits : P * j ≤ 8388608 = level-fits h l in
     let a : x * factor ≤ 8388608 * 4294967295 = mul-le-mul (let z : x ≤ 8388608 = omega arith in z) (let z : factor ≤ 4294967295 = omega arith in z) in
     omega arith
 
 -- The level by the factor of the steps.
-pub level-by : (P steps j : ℕ) → P < 65536 → 1 ≤ steps → steps < 128 → j < 128 → levelBy P (factorOf steps) j ≡ levelAfter P steps j
+pub level-by : (P steps j : ℕ) → P < peakLimit → 1 ≤ steps → steps < 128 → j < 128 → levelBy P (factorOf steps) j ≡ levelAfter P steps j
 unfolding levelBy factorOf levelAfter
 level-by P steps j h one few l = factor-divides (P * j) steps (level-fits h l) one few

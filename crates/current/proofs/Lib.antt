@@ -8,5 +8,6 @@ pub mod Bits
 pub mod Edges
 pub mod Gates
 pub mod Contacts
+pub mod Totals
 pub mod Drops
 pub mod Sheets

@@ -2,39 +2,36 @@
 -- Assumes nothing.
 use Prim.Native.Nat.{ℕ, _+_, _-_, _≤_, _<_, max}
 use mathlib.Core.List.{List}
-use mathlib.Core.Path.{_≡_, sym, ap, _∙_}
+use mathlib.Core.Logic.{inl, inr}
+use mathlib.Core.Path.{_≡_, refl, sym, ap, _∙_}
 use native.Mathlib.Nat.{le-refl, max-zero}
 use native.Mathlib.Omega.{arith}
 use lib.Dec.{leb, ltb}
-use lib.ListN.{getD}
+use lib.ListN.{length, getD, set}
 use borrow.Author.Tests.{ltb-true, ltb-false, leb-true, leb-false, lt-ltb, le-ltb, le-leb, lt-leb}
 use borrow.Table.Steps.{cases}
+use Rattle.laws.specs.Rewritten.{Rewritten}
+use Rattle.laws.proofs.Rewritten.{rewritten-next, rewritten-to, rewritten-at}
 use Rattle.current.specs.Levels.{InRange}
 use Rattle.current.specs.Pulse.{pulse, pulseAt}
-use Rattle.current.specs.Runs.{raisedToPulse, raisedTo, runPulse, RunDrawn}
-use Rattle.current.specs.Words.{WordsWritten, withRow}
+use Rattle.current.specs.Runs.{raisedTo, RiseDrawn, HeightDrawn, FallDrawn, runPulse, RunDrawn}
 use Rattle.current.proofs.Pulses.{pulse-top, pulse-ends, pulse-most, pulse-rises, pulse-falls}
 
--- The word that a loop writes next.
-
-pub to-pulse : (P r f start k : ℕ) {from level v : ℕ} {row row′ : List ℕ} → WordsWritten from (start + k) (raisedToPulse row P r f start) row row′
-    → level ≡ pulse P r f k → v ≡ max (getD row′ (start + k) 0) level → v ≡ raisedToPulse row P r f start (start + k)
-unfolding raisedToPulse
-to-pulse P r f start k {row = row} w l e =
-    e ∙ rw (l, w .above (start + k) (le-refl (start + k)))
-    (ap (λ x. max (getD row (start + k) 0) (pulse P r f x)) (let z : k ≡ start + k - start = omega arith in z))
-
-pub to-level : (level : ℕ) {from t v : ℕ} {row row′ : List ℕ} → WordsWritten from t (raisedTo row level) row row′
-    → v ≡ max (getD row′ t 0) level → v ≡ raisedTo row level t
+-- One word more of a row that is raised.
+pub raised-next : (from : ℕ) (level : ℕ → ℕ) (k at height v : ℕ) {row row′ : List ℕ} → Rewritten (raisedTo row from level) from k row row′
+    → at ≡ from + k → at < length row → height ≡ level k → v ≡ max (getD row′ at 0) height
+    → (next : ℕ) → k + 1 ≡ next → Rewritten (raisedTo row from level) from next row (set row′ at v)
 unfolding raisedTo
-to-level level {t = t} w e = e ∙ ap (λ x. max x level) (w .above t (le-refl t))
+raised-next from level k at height v {row} {row′} w place inside l e next n =
+    let old : getD row′ at 0 ≡ getD row (from + k) 0 = rw place (w .rest (from + k) (inr (le-refl (from + k)))) in
+    rewritten-to _ from (k + 1) next row _ n (rewritten-next (raisedTo row from level) from k at v row row′ place inside (e ∙ rw (l, old) refl) w)
 
-pub to-sum : (start : ℕ) (row : List ℕ) (t : ℕ) {from : ℕ} {words words′ : List ℕ} → WordsWritten from (start + t) (withRow words start row) words words′
-    → getD words′ (start + t) 0 + getD row t 0 ≡ withRow words start row (start + t)
-unfolding withRow
-to-sum start row t {words = words} w =
-    ap (λ x. x + getD row t 0) (w .above (start + t) (le-refl (start + t)))
-    ∙ ap (λ x. getD words (start + t) 0 + getD row x 0) (let z : t ≡ start + t - start = omega arith in z)
+-- The word at a tick of a row that was raised.
+raised-at : (level : ℕ → ℕ) {from n : ℕ} {row after : List ℕ} → Rewritten (raisedTo row from level) from n row after → (t : ℕ) → from ≤ t → t < from + n
+    → getD after t 0 ≡ max (getD row t 0) (level (t - from))
+unfolding raisedTo
+raised-at level {from} {row = row} w t low high =
+    rewritten-at w t low high ∙ ap (λ i. max (getD row i 0) (level (t - from))) (let z : from + (t - from) ≡ t = omega arith in z)
 
 -- The greatest pulse of a run, by its parts.
 module _ (P r f first last : ℕ) where
@@ -105,27 +102,29 @@ module _ {P r f first last : ℕ} (range : InRange P r f) (ordered : first ≤ l
       rw (run-fall P r f first last t ordered l) (rw at at (each (D + last) (omega arith) (omega arith))))
       t
 
-  module _ {row risen level fallen : List ℕ} (rise : WordsWritten first (first + r) (raisedToPulse row P r f first) row risen)
-      (peak : WordsWritten (first + r) (last + r + 1) (raisedTo risen P) risen level)
-      (fall : WordsWritten (last + (r + 1)) (last + (r + f)) (raisedToPulse level P r f last) level fallen) where
+  module _ {row risen level fallen : List ℕ} (rise : RiseDrawn P r f first row risen)
+      (peak : HeightDrawn P (first + r) (last + r + 1) risen level) (fall : FallDrawn P r f last level fallen) where
     -- The three parts of a run, drawn one after the other.
     pub run-drawn : RunDrawn P r f first last row fallen
-    unfolding raisedToPulse raisedTo
-    run-drawn = record {
-      long = fall .long ∙ peak .long ∙ rise .long;
-      at = run-parts P r f first last (λ t. getD fallen t 0 ≡ max (getD row t 0) (runPulse P r f first last t))
-          (λ t l. fall .below t (omega arith) ∙ peak .below t (omega arith) ∙ rise .below t (omega arith)
-          ∙ sym (max-zero _) ∙ ap (max (getD row t 0)) (sym (run-before P r f first last t l)))
-          (λ t l m. fall .below t (omega arith) ∙ peak .below t (omega arith) ∙ rise .inside t l m
-          ∙ ap (max (getD row t 0)) (sym (run-rise P r f first last t l m)))
-          (λ t l m. fall .below t (omega arith) ∙ peak .inside t l (omega arith) ∙ ap (λ x. max x P) (rise .above t l)
-          ∙ ap (max (getD row t 0)) (sym (run-peak P r f first last t l m)))
-          (λ t l. let low = l in
-          let old : getD level t 0 ≡ getD row t 0 = peak .above t (omega arith) ∙ rise .above t (omega arith) in
-          cases (ltb t (last + (r + f)))
-          (λ b. fall .inside t (omega arith) (ltb-true t (last + (r + f)) b) ∙ ap (λ x. max x (pulse P r f (t - last))) old
-          ∙ ap (max (getD row t 0)) (sym (run-fall P r f first last t ordered l)))
-          (λ b. let h = ltb-false t (last + (r + f)) b in
-          fall .above t h ∙ old ∙ sym (max-zero _)
-          ∙ ap (max (getD row t 0)) (sym (run-fall P r f first last t ordered l ∙ pulse-ends range (t - last) (omega arith)))));
-    }
+    run-drawn =
+        let some = range .fall-low in
+        record {
+          long = fall .long ∙ peak .long ∙ rise .long;
+          at = run-parts P r f first last (λ t. getD fallen t 0 ≡ max (getD row t 0) (runPulse P r f first last t))
+              (λ t l. fall .rest t (inl (omega arith)) ∙ peak .rest t (inl (omega arith)) ∙ rise .rest t (inl (omega arith))
+              ∙ sym (max-zero _) ∙ ap (max (getD row t 0)) (sym (run-before P r f first last t l)))
+              (λ t l m. fall .rest t (inl (omega arith)) ∙ peak .rest t (inl (omega arith)) ∙ raised-at (pulse P r f) rise t l m
+              ∙ ap (max (getD row t 0)) (sym (run-rise P r f first last t l m)))
+              (λ t l m. fall .rest t (inl (omega arith)) ∙ raised-at (λ k. P) peak t l (omega arith) ∙ ap (λ x. max x P) (rise .rest t (inr l))
+              ∙ ap (max (getD row t 0)) (sym (run-peak P r f first last t l m)))
+              (λ t l. let old : getD level t 0 ≡ getD row t 0 = peak .rest t (inr (omega arith)) ∙ rise .rest t (inr (omega arith)) in
+              cases (ltb t (last + (r + f)))
+              (λ b. let h = ltb-true t (last + (r + f)) b in
+              let since : r + 1 + (t - (last + (r + 1))) ≡ t - last = omega arith in
+              raised-at (λ k. pulse P r f (r + 1 + k)) fall t (omega arith) (omega arith) ∙ ap (λ x. max x (pulse P r f (r + 1 + (t - (last + (r + 1)))))) old
+              ∙ ap (λ k. max (getD row t 0) (pulse P r f k)) since
+              ∙ ap (max (getD row t 0)) (sym (run-fall P r f first last t ordered l)))
+              (λ b. let h = ltb-false t (last + (r + f)) b in
+              fall .rest t (inr (omega arith)) ∙ old ∙ sym (max-zero _)
+              ∙ ap (max (getD row t 0)) (sym (run-fall P r f first last t ordered l ∙ pulse-ends range (t - last) (omega arith)))));
+        }

@@ -7,7 +7,9 @@ use lib.ListN.{length, getD}
 use Rattle.laws.specs.Below.{maxBelow, sumBelow}
 use Rattle.laws.specs.Turn.{listBelow}
 use Rattle.excitation.specs.Excitation.{hl, lh}
-use Rattle.block.specs.Record.{File, netCount, contact, delay, rise, fall, peakLh, peakHl, isInput}
+use Rattle.block.specs.Record.{File, netCount, contact, isInput}
+use Rattle.block.specs.View.{gateOf}
+use Rattle.block.specs.declared.Gate.{Gate}
 use Rattle.waveform.specs.Waveform.{Waveform, Values, waveforms}
 use Rattle.current.specs.Pulse.{pulseAt}
 
@@ -27,11 +29,11 @@ greatestAt f [] = 0
 greatestAt f (x ∷ rest) = max (f x) (greatestAt f rest)
 
 -- A gate's current at tick t: the greatest of its pulses at that tick, P being the peak for that edge.
-unfoldable pub gateCurrent : File → ℕ → Transitions → ℕ → ℕ
-gateCurrent file net transitions t =
+unfoldable pub gateCurrent : Gate → Transitions → ℕ → ℕ
+gateCurrent gate transitions t =
     max
-    (greatestAt (λ x. pulseAt (peakLh file net) (rise file net) (fall file net) (delay file net) x t) (transitions .rises))
-    (greatestAt (λ x. pulseAt (peakHl file net) (rise file net) (fall file net) (delay file net) x t) (transitions .falls))
+    (greatestAt (λ x. pulseAt (gate .peaks .lh) (gate .rise) (gate .fall) (gate .delay) x t) (transitions .rises))
+    (greatestAt (λ x. pulseAt (gate .peaks .hl) (gate .rise) (gate .fall) (gate .delay) x t) (transitions .falls))
 
 -- Whether a net is a gate of a contact. Inputs draw no current.
 unfoldable pub drawsAt : File → ℕ → ℕ → Bool
@@ -40,7 +42,7 @@ drawsAt file c net = not (isInput file net) && eqb (contact file net) c
 -- What a net adds to the current of contact c at tick t.
 unfoldable pub part : File → List Transitions → ℕ → ℕ → ℕ → ℕ
 part file transitions c t net =
-    elim (drawsAt file c net) [ true ↦ gateCurrent file net (getD transitions net (record { rises = []; falls = [] })) t | false ↦ 0 ]
+    elim (drawsAt file c net) [ true ↦ gateCurrent (gateOf file net) (getD transitions net (record { rises = []; falls = [] })) t | false ↦ 0 ]
 
 -- A contact's current at tick t: the sum over its gates.
 unfoldable pub contactCurrent : File → List Transitions → ℕ → ℕ → ℕ

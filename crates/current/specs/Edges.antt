@@ -10,8 +10,10 @@ use lib.ListN.{length, getD}
 use Rattle.excitation.specs.Excitation.{hl, lh}
 use Rattle.excitation.specs.UncertaintySet.{member, decode}
 use Rattle.excitation.specs.declared.Excitation.{Excitation}
-use Rattle.block.specs.Accepted.{GateRecord}
-use Rattle.block.specs.Record.{File, HasRecord, delay}
+use Rattle.block.specs.Accepted.{InRanges}
+use Rattle.block.specs.Limits.{gateLimit}
+use Rattle.block.specs.View.{FieldsFit}
+use Rattle.block.specs.declared.Gate.{Gate}
 use Rattle.fill.specs.Codes.{Codes}
 use Rattle.current.specs.Current.{gateCurrent}
 use Rattle.current.specs.Drawing.{transitionsIn, Between}
@@ -85,13 +87,13 @@ pub record EdgesDrawn (P Q r f D bit : ℕ) (codes row after : List ℕ) : Type 
       → ((x : ℕ) → holdsEdge (edgeOf (12 - bit)) codes x ≡ true → pulseAt Q r f D x t ≤ bound) → getD after t 0 ≤ bound
 
 -- A gate and the codes of its sets.
-pub record GateCodes (file : File) (net : ℕ) (codes : List ℕ) (last seen : ℕ) : Type 0 where
-  pub has-record : HasRecord file net
-  pub gate : GateRecord file net
-  pub edges : EdgesWithin codes (delay file net) last seen
+pub record GateCodes (gate : Gate) (codes : List ℕ) (last seen : ℕ) : Type 0 where
+  pub ranges : InRanges (gate .contact) (gate .delay) (gate .rise) (gate .fall)
+  pub fits : FieldsFit gate
+  pub edges : EdgesWithin codes (gate .delay) last seen
 
 -- A row that holds a gate's current.
-pub record RowDrawn (file : File) (net : ℕ) (codes row : List ℕ) : Type 0 where
+pub record RowDrawn (gate : Gate) (codes row : List ℕ) : Type 0 where
   pub long : length row ≡ 512
-  pub at : (t : ℕ) → getD row t 0 ≡ gateCurrent file net (transitionsIn codes) t
-  pub small : (t : ℕ) → getD row t 0 ≤ 65535
+  pub at : (t : ℕ) → getD row t 0 ≡ gateCurrent gate (transitionsIn codes) t
+  pub small : (t : ℕ) → getD row t 0 ≤ gateLimit

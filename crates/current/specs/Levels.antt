@@ -1,10 +1,11 @@
 -- The levels of a pulse, as the code takes them.
 use Prim.Native.Nat.{ℕ, _+_, _*_, _/_, _≤_, _<_}
 use mathlib.Core.Path.{_≡_}
+use Rattle.block.specs.Limits.{peakLimit}
 
 -- The peak, rise and fall that a gate's record may have.
 pub record InRange (P r f : ℕ) : Type 0 where
-  pub peak-high : P < 65536
+  pub peak-high : P < peakLimit
   pub rise-low : 1 ≤ r
   pub rise-high : r < 128
   pub fall-low : 1 ≤ f

@@ -5,14 +5,24 @@ use mathlib.Core.List.{List}
 use mathlib.Core.Path.{_≡_}
 use lib.Dec.{leb, ltb}
 use lib.ListN.{length, getD}
+use Rattle.laws.specs.Rewritten.{Rewritten}
 use Rattle.current.specs.Pulse.{pulse}
 
--- A row raised to a pulse that starts at tick `start`, and a row raised to a level.
-unfoldable pub raisedToPulse : List ℕ → ℕ → ℕ → ℕ → ℕ → ℕ → ℕ
-raisedToPulse row P r f start t = max (getD row t 0) (pulse P r f (t - start))
+-- A row raised to levels from tick `from` on: its word k ticks later.
+unfoldable pub raisedTo : List ℕ → ℕ → (ℕ → ℕ) → ℕ → ℕ
+raisedTo row from level k = max (getD row (from + k) 0) (level k)
 
-unfoldable pub raisedTo : List ℕ → ℕ → ℕ → ℕ
-raisedTo row level t = max (getD row t 0) level
+-- A row once the rise of a pulse that starts at tick `start` is drawn, up to before the peak.
+abbrev pub RiseDrawn : ℕ → ℕ → ℕ → ℕ → List ℕ → List ℕ → Type 0
+RiseDrawn P r f start row = Rewritten (raisedTo row start (pulse P r f)) start r row
+
+-- A row once a height is drawn from tick `from` to before tick `to`.
+abbrev pub HeightDrawn : ℕ → ℕ → ℕ → List ℕ → List ℕ → Type 0
+HeightDrawn height from to row = Rewritten (raisedTo row from (λ k. height)) from (to - from) row
+
+-- A row once the fall of a pulse that starts at tick `start` is drawn, from after the peak.
+abbrev pub FallDrawn : ℕ → ℕ → ℕ → ℕ → List ℕ → List ℕ → Type 0
+FallDrawn P r f start row = Rewritten (raisedTo row (start + (r + 1)) (λ k. pulse P r f (r + 1 + k))) (start + (r + 1)) (f - 1) row
 
 -- The greatest at tick t of the pulses that start at ticks `first` to `last`: the first one's rise, the peak, the last one's fall.
 unfoldable pub runPulse : ℕ → ℕ → ℕ → ℕ → ℕ → ℕ → ℕ

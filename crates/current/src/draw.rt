@@ -1,31 +1,21 @@
 // Pulses drawn into a row: each tick of the row is raised to the pulse, where it is lower.
 ghost use mathlib.Core.Path.{_≡_};
-ghost use Prim.Native.Nat.{_+_, _≤_, _<_, max};
+ghost use Prim.Native.Nat.{_≤_, _<_};
 ghost use lib.ListN.{length};
-ghost use Rattle.current.specs.Words.{WordsWritten};
 ghost use Rattle.current.specs.Levels.{Factored};
-ghost use Rattle.current.specs.Runs.{raisedToPulse, raisedTo, RunDrawn};
+ghost use Rattle.current.specs.Runs.{RiseDrawn, HeightDrawn, FallDrawn, RunDrawn};
 use super::Word;
 use super::level::Pulse;
 use super::level::level;
 
-fn greater(a: u32, b: u32) -> u32
-    ensures { λ r. ⌜ r ≡ max a b ⌝ }
-{
-    if a < b {
-        return b;
-    }
-    a
-}
-
 // The rise of a pulse that starts at tick `start`, up to before the peak.
 fn draw_rise(row: &mut [Word], pulse: Pulse, start: usize)
     requires { ⌜ (length (now row) ≡ 512) × Factored (pulse .peak) (pulse .rise) (pulse .fall) (pulse .rising) (pulse .falling) × (start < 256) ⌝ }
-    ensures { λ _. ⌜ WordsWritten start (start + pulse .rise) (raisedToPulse (now (row .entry)) (pulse .peak) (pulse .rise) (pulse .fall) start) (now (row .entry)) (now (row .exit)) ⌝ }
+    ensures { λ _. ⌜ RiseDrawn (pulse .peak) (pulse .rise) (pulse .fall) start (now (row .entry)) (now (row .exit)) ⌝ }
 {
     let mut k: usize = 0;
     while k < pulse.rise {
-        row[start + k] = greater(row[start + k], level(pulse.peak, pulse.rising, k));
+        row[start + k] = numbers::max_u32(row[start + k], level(pulse.peak, pulse.rising, k));
         k += 1;
     }
 }
@@ -33,12 +23,15 @@ fn draw_rise(row: &mut [Word], pulse: Pulse, start: usize)
 // The fall of a pulse that starts at tick `start`, from after the peak.
 fn draw_fall(row: &mut [Word], pulse: Pulse, start: usize)
     requires { ⌜ (length (now row) ≡ 512) × Factored (pulse .peak) (pulse .rise) (pulse .fall) (pulse .rising) (pulse .falling) × (start < 256) ⌝ }
-    ensures { λ _. ⌜ WordsWritten (start + (pulse .rise + 1)) (start + (pulse .rise + pulse .fall)) (raisedToPulse (now (row .entry)) (pulse .peak) (pulse .rise) (pulse .fall) start) (now (row .entry)) (now (row .exit)) ⌝ }
+    ensures { λ _. ⌜ FallDrawn (pulse .peak) (pulse .rise) (pulse .fall) start (now (row .entry)) (now (row .exit)) ⌝ }
 {
     let end = pulse.rise + pulse.fall;
     let mut k = pulse.rise + 1;
     while k < end {
-        row[start + k] = greater(row[start + k], level(pulse.peak, pulse.falling, end - k));
+        row[start + k] = numbers::max_u32(
+            row[start + k],
+            level(pulse.peak, pulse.falling, end - k),
+        );
         k += 1;
     }
 }
@@ -46,11 +39,11 @@ fn draw_fall(row: &mut [Word], pulse: Pulse, start: usize)
 // A height from tick `from` to before tick `to`.
 fn draw_level(row: &mut [Word], from: usize, to: usize, height: u32)
     requires { ⌜ (length (now row) ≡ 512) × (from ≤ to) × (to ≤ 512) ⌝ }
-    ensures { λ _. ⌜ WordsWritten from to (raisedTo (now (row .entry)) height) (now (row .entry)) (now (row .exit)) ⌝ }
+    ensures { λ _. ⌜ HeightDrawn height from to (now (row .entry)) (now (row .exit)) ⌝ }
 {
     let mut t = from;
     while t < to {
-        row[t] = greater(row[t], height);
+        row[t] = numbers::max_u32(row[t], height);
         t += 1;
     }
 }

@@ -9,8 +9,7 @@ use super::edge;
 use super::level;
 use super::level::Pulse;
 use super::sheet;
-use block::Net;
-use block::view;
+use block::Gate;
 
 // The first tick at which no pulse of a gate is left.
 fn quiet_from(last: usize, delay: usize, rise: usize, fall: usize) -> usize
@@ -25,11 +24,10 @@ fn quiet_from(last: usize, delay: usize, rise: usize, fall: usize) -> usize
 }
 
 // A gate's current, drawn into a row of zeros.
-fn draw_row(file: &[u8], net: Net, codes: &[u8], last: usize, seen: u8, row: &mut [Word])
-    requires { ⌜ GateCodes (now file) (net .0) (now codes) last seen × (now row ≡ replicate 512 0) ⌝ }
-    ensures { λ _. ⌜ RowDrawn (now (file .entry)) (net .0) (now (codes .entry)) (now (row .exit)) ⌝ }
+fn draw_row(gate: Gate, codes: &[u8], last: usize, seen: u8, row: &mut [Word])
+    requires { ⌜ GateCodes gate (now codes) last seen × (now row ≡ replicate 512 0) ⌝ }
+    ensures { λ _. ⌜ RowDrawn gate (now (codes .entry)) (now (row .exit)) ⌝ }
 {
-    let gate = view::gate(file, net);
     let rise = gate.rise;
     let fall = gate.fall;
     let rising = level::factor(rise);
@@ -76,17 +74,16 @@ fn draw_row(file: &[u8], net: Net, codes: &[u8], last: usize, seen: u8, row: &mu
 }
 
 // A gate's current added to the sheet. Past tick `last` the gate has no transition. A gate without transitions adds nothing.
-pub fn draw_gate(file: &[u8], net: Net, codes: &[u8], last: usize, sheet: &mut [Word])
-    requires { ⌜ Drawable (now file) (net .0) (now codes) last (now sheet) ⌝ }
-    ensures { λ _. ⌜ Drawn (now (file .entry)) (net .0) (now (codes .entry)) (now (sheet .entry)) (now (sheet .exit)) ⌝ }
+pub fn draw_gate(gate: Gate, codes: &[u8], last: usize, sheet: &mut [Word])
+    requires { ⌜ Drawable gate (now codes) last (now sheet) ⌝ }
+    ensures { λ _. ⌜ Drawn gate (now (codes .entry)) (now (sheet .entry)) (now (sheet .exit)) ⌝ }
 {
-    let gate = view::gate(file, net);
     let seen = edge::seen(codes, gate.delay, last + 1);
     if seen & edge::BOTH_BITS == 0 {
         return;
     }
     let mut row: [Word; 512] = [0; 512];
-    draw_row(file, net, codes, last, seen, &mut row);
+    draw_row(gate, codes, last, seen, &mut row);
     let end = quiet_from(last, gate.delay, gate.rise, gate.fall);
     sheet::add_row(sheet, 512 * gate.contact, &row, end);
 }

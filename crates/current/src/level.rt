@@ -1,6 +1,7 @@
 // The levels of a pulse, without a division a tick.
 ghost use mathlib.Core.Path.{_≡_};
 ghost use Prim.Native.Nat.{_≤_, _<_};
+ghost use Rattle.block.specs.Limits.{peakLimit};
 ghost use Rattle.current.specs.Levels.{factorOf, levelBy};
 
 // Peak, rise and fall of a pulse, and the factors by which the levels of its rise and its fall are taken.
@@ -20,17 +21,11 @@ pub fn factor(steps: usize) -> u32
     2147483648 / steps as u32 + 1
 }
 
-fn wide(x: u32) -> u64
-    ensures { λ r. ⌜ (r ≡ x) × (r < 4294967296) ⌝ }
-{
-    x as u64
-}
-
 // The level after j steps.
 pub fn level(peak: u32, factor: u32, j: usize) -> u32
-    requires { ⌜ (peak < 65536) × (j < 128) ⌝ }
+    requires { ⌜ (peak < peakLimit) × (j < 128) ⌝ }
     ensures { λ r. ⌜ r ≡ levelBy peak factor j ⌝ }
 {
-    let product = wide(peak * j as u32) * wide(factor);
+    let product = numbers::u64_from_u32(peak * j as u32) * numbers::u64_from_u32(factor);
     (product / 2147483648) as u32
 }

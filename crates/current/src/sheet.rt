@@ -1,8 +1,8 @@
 // The words of a sheet: a row of 512 ticks for each of 16 contacts.
 ghost use mathlib.Core.Path.{_≡_};
-ghost use Prim.Native.Nat.{_+_};
 ghost use lib.ListN.{length};
-ghost use Rattle.current.specs.Words.{WordsWritten, withRow, RowFits, Cleared};
+ghost use Rattle.laws.specs.Rewritten.{Rewritten};
+ghost use Rattle.current.specs.Words.{withRow, RowFits, Cleared};
 use super::Word;
 
 // A sheet with no current.
@@ -20,7 +20,7 @@ pub fn clear(sheet: &mut [Word])
 // A row added to words from place `start` on, n words of it.
 pub fn add_row(words: &mut [Word], start: usize, row: &[Word], n: usize)
     requires { ⌜ RowFits (now words) start (now row) n ⌝ }
-    ensures { λ _. ⌜ WordsWritten start (start + n) (withRow (now (words .entry)) start (now (row .entry))) (now (words .entry)) (now (words .exit)) ⌝ }
+    ensures { λ _. ⌜ Rewritten (withRow (now (words .entry)) start (now (row .entry))) start n (now (words .entry)) (now (words .exit)) ⌝ }
 {
     let mut t: usize = 0;
     while t < n {

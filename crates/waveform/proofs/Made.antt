@@ -13,20 +13,22 @@ use borrow.Author.Tests.{ltb-true, ltb-false, eqb-true, eqb-false, ne-eqb}
 use borrow.Table.Steps.{cases}
 use Rattle.laws.specs.Rewritten.{Rewritten}
 use Rattle.laws.specs.Turn.{listBelow}
-use Rattle.laws.proofs.Below.{max-at, max-at-most}
+use Rattle.laws.proofs.Below.{max-at}
 use Rattle.laws.proofs.Rewritten.{rewritten-first}
 use Rattle.laws.proofs.Turn.{list-at, list-is}
 use Rattle.excitation.specs.UncertaintySet.{UncertaintySet, code, decode, empty, heldBeforeSet, heldAfterSet}
 use Rattle.excitation.proofs.Codes.{decode-low, decode-code, code-below}
-use Rattle.block.specs.Record.{File, delay, pinCount, pin}
+use Rattle.block.specs.View.{pinOf}
+use Rattle.block.specs.declared.Gate.{Gate}
 use Rattle.fill.specs.Codes.{Codes, setsOf, SettledFrom, Filled}
 use Rattle.fill.specs.Fill.{filled}
 use Rattle.fill.proofs.Filled.{filled-settled}
-use Rattle.waveform.specs.Pins.{pinSample, NetSampled, Delayed}
+use Rattle.waveform.specs.Pins.{pinSample, GateSampled, Delayed}
 use Rattle.waveform.specs.Rows.{codeIn, waveformIn, waveformsIn, lastIn, latestIn, pinsLastIn, sampleIn, SettledAfter, SameAfter, LastChange, RowWritten, Ready, GateMade, InputMade}
 use Rattle.waveform.specs.Waveform.{earlier, envelope, inputWaveform, gateFrom, pinWaveform, gateAt, gateWaveform}
 use Rattle.waveform.proofs.Settles.{input-settles}
 use Rattle.waveform.proofs.Gates.{gate-same}
+use Rattle.waveform.proofs.Rows.{pins-soon}
 use Rattle.waveform.proofs.Waveforms.{waveform-is}
 
 -- The sets of 256 codes.
@@ -89,41 +91,36 @@ module _ (hops bound : ℕ) (raw codes : List ℕ) (long : length raw ≡ 256) (
   pub filled-same-after : SameAfter bound codes
   filled-same-after = record { same = λ t h q. at-start t (omega arith) q ∙ sym (at-start 255 (omega arith) (omega arith)) }
 
-module _ (file : File) (net : ℕ) (work : List ℕ) (ready : Ready file net work) (hops : ℕ) where
+module _ (net : ℕ) (gate : Gate) (work : List ℕ) (ready : Ready net gate work) (hops : ℕ) where
   abbrev D : ℕ
-  D = delay file net
+  D = gate .delay
 
   abbrev last : ℕ
-  last = pinsLastIn file work net
+  last = pinsLastIn gate work
 
-  on-pin : (p : ℕ) → p < pinCount file net → pinWaveform (envelope hops) file (waveformsIn work net) net p ≡ waveformIn work (pin file net p)
+  on-pin : (p : ℕ) → p < gate .used → pinWaveform (envelope hops) gate (waveformsIn work net) p ≡ waveformIn work (pinOf gate p)
   unfolding pinWaveform waveformsIn
-  on-pin p h = list-at net (waveformIn work) (pin file net p) _ (ready .gate .pin-below p h)
+  on-pin p h = list-at net (waveformIn work) (pinOf gate p) _ (ready .checked .pin-below p h)
 
-  pin-last : (p : ℕ) → p < pinCount file net → lastIn work (pin file net p) ≤ last
+  pin-last : (p : ℕ) → p < gate .used → lastIn work (pinOf gate p) ≤ last
   unfolding pinsLastIn
-  pin-last p h = max-at (pinCount file net) (λ p. lastIn work (pin file net p)) p h
-
-  -- The pins settle no later than they arrive.
-  pub pins-soon : last ≤ latestIn file work net
-  unfolding pinsLastIn latestIn
-  pins-soon = max-at-most (pinCount file net) _ _ (λ p h. ready .settled p h .soon)
+  pin-last p h = max-at (gate .used) (λ p. lastIn work (pinOf gate p)) p h
 
   -- Sample k of a pin: before tick 0, and at tick k - 1.
-  sample-before : (p : ℕ) → pinSample (pin file net) work 0 p ≡ waveformIn work (pin file net p) .before
+  sample-before : (p : ℕ) → pinSample gate work 0 p ≡ waveformIn work (pinOf gate p) .before
   unfolding pinSample sampleIn waveformIn
   sample-before p = decode-low _
 
-  sample-at : (t p : ℕ) → pinSample (pin file net) work (t + 1) p ≡ decode (codeIn work (pin file net p) t)
+  sample-at : (t p : ℕ) → pinSample gate work (t + 1) p ≡ decode (codeIn work (pinOf gate p) t)
   unfolding pinSample sampleIn
   sample-at t p = let e : t + 1 - 1 ≡ t = omega arith in rw (ne-eqb (t + 1) 0 (λ z. omega arith), e) refl
 
   -- A pin at t − D, from its samples up to tick last + 1.
-  pin-earlier : (t p : ℕ) → t < 256 → p < pinCount file net
-      → pinSample (pin file net) work (min (t + 1 - D) (last + 2)) p ≡ earlier D t (waveformIn work (pin file net p))
+  pin-earlier : (t p : ℕ) → t < 256 → p < gate .used
+      → pinSample gate work (min (t + 1 - D) (last + 2)) p ≡ earlier D t (waveformIn work (pinOf gate p))
   unfolding earlier
   pin-earlier t p h q =
-      let w = waveformIn work (pin file net p) in
+      let w = waveformIn work (pinOf gate p) in
       cases (ltb t D)
       (λ s. let b = ltb-true t D s in
       let z : min (t + 1 - D) (last + 2) ≡ 0 = omega arith in
@@ -133,44 +130,44 @@ module _ (file : File) (net : ℕ) (work : List ℕ) (ready : Ready file net wor
       (cases (ltb (t - D) (last + 2))
       (λ r. let m = ltb-true (t - D) (last + 2) r in
       let z : min (t + 1 - D) (last + 2) ≡ t - D + 1 = omega arith in
-      rw z (sample-at (t - D) p ∙ sym (tick-in work (pin file net p) (t - D) (w .before) (omega arith))))
+      rw z (sample-at (t - D) p ∙ sym (tick-in work (pinOf gate p) (t - D) (w .before) (omega arith))))
       (λ r. let m = ltb-false (t - D) (last + 2) r in
       let z : min (t + 1 - D) (last + 2) ≡ last + 1 + 1 = omega arith in
-      let one = ready .gate .delay-low in
+      let one = ready .checked .ranges .delay-low in
       let most = ready .in-time in
-      let soon = pins-soon in
+      let soon = pins-soon ready in
       let here = pin-last p q in
       let settled = ready .settled p q .settled in
       rw z
-      (sample-at (last + 1) p ∙ sym (tick-in work (pin file net p) (last + 1) empty (omega arith)) ∙ settled .same (last + 1) (omega arith) (omega arith)
-      ∙ sym (settled .same (t - D) (omega arith) (omega arith)) ∙ tick-in work (pin file net p) (t - D) empty (omega arith)
-      ∙ sym (tick-in work (pin file net p) (t - D) (w .before) (omega arith))))))
+      (sample-at (last + 1) p ∙ sym (tick-in work (pinOf gate p) (last + 1) empty (omega arith)) ∙ settled .same (last + 1) (omega arith) (omega arith)
+      ∙ sym (settled .same (t - D) (omega arith) (omega arith)) ∙ tick-in work (pinOf gate p) (t - D) empty (omega arith)
+      ∙ sym (tick-in work (pinOf gate p) (t - D) (w .before) (omega arith))))))
 
   -- The codes made from the samples are those of the gate's raw sets.
-  raw-is : (samples codes : List ℕ) → NetSampled file net work (last + 3) samples → Delayed D last samples codes
-      → setsOf codes ≡ listBelow 256 (gateAt (envelope hops) file (waveformsIn work net) net)
+  raw-is : (samples codes : List ℕ) → GateSampled gate work (last + 3) samples → Delayed D last samples codes
+      → setsOf codes ≡ listBelow 256 (gateAt (envelope hops) gate (waveformsIn work net))
   unfolding gateAt
   raw-is samples codes g d =
-      sets-list codes (gateAt (envelope hops) file (waveformsIn work net) net) (d .long)
+      sets-list codes (gateAt (envelope hops) gate (waveformsIn work net)) (d .long)
       (λ t h. ap decode (d .at t h) ∙ g hops .at (min (t + 1 - D) (last + 2)) (omega arith)
-      ∙ gate-same (envelope hops) file net _ _ (ready .gate .pins-low)
+      ∙ gate-same (envelope hops) gate _ _ (ready .checked .pins-low)
       (λ p q. pin-earlier t p h q ∙ ap (earlier D t) (sym (on-pin p q))))
 
-  before-is : (samples : List ℕ) → NetSampled file net work (last + 3) samples
-      → decode (getD samples 0 0) ≡ gateFrom (envelope hops) file net (λ p. pinWaveform (envelope hops) file (waveformsIn work net) net p .before)
+  before-is : (samples : List ℕ) → GateSampled gate work (last + 3) samples
+      → decode (getD samples 0 0) ≡ gateFrom (envelope hops) gate (λ p. pinWaveform (envelope hops) gate (waveformsIn work net) p .before)
   before-is samples g =
       g hops .at 0 (omega arith)
-      ∙ gate-same (envelope hops) file net _ _ (ready .gate .pins-low) (λ p q. sample-before p ∙ ap (λ w. w .before) (sym (on-pin p q)))
+      ∙ gate-same (envelope hops) gate _ _ (ready .checked .pins-low) (λ p q. sample-before p ∙ ap (λ w. w .before) (sym (on-pin p q)))
 
-  earliest-is : (arrival end : ℕ) (samples codes after : List ℕ) → NetSampled file net work (last + 3) samples
+  earliest-is : (arrival end : ℕ) (samples codes after : List ℕ) → GateSampled gate work (last + 3) samples
       → RowWritten net (getD samples 0 0) arrival end codes work after
-      → waveformIn after net .before ≡ gateFrom (envelope hops) file net (λ p. pinWaveform (envelope hops) file (waveformsIn work net) net p .before)
+      → waveformIn after net .before ≡ gateFrom (envelope hops) gate (λ p. pinWaveform (envelope hops) gate (waveformsIn work net) p .before)
   unfolding waveformIn
   earliest-is arrival end samples codes after g w = ap decode (w .earliest) ∙ before-is samples g
 
-  pub gate-made : (arrival end : ℕ) (samples raw codes after : List ℕ) → NetSampled file net work (last + 3) samples → Delayed D last samples raw
-      → Filled hops raw codes → arrival ≡ latestIn file work net + D → LastChange arrival codes end
-      → RowWritten net (getD samples 0 0) arrival end codes work after → GateMade file net hops work after codes
+  pub gate-made : (arrival end : ℕ) (samples raw codes after : List ℕ) → GateSampled gate work (last + 3) samples → Delayed D last samples raw
+      → Filled hops raw codes → arrival ≡ latestIn gate work + D → LastChange arrival codes end
+      → RowWritten net (getD samples 0 0) arrival end codes work after → GateMade net gate hops work after codes
   unfolding gateWaveform
   gate-made arrival end samples raw codes after g d f a c w =
       let ticks = written-ticks net (getD samples 0 0) arrival end codes work after (f .codes .long) w in

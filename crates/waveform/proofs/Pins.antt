@@ -13,40 +13,37 @@ use borrow.Table.Steps.{cases}
 use Rattle.laws.specs.Rewritten.{Rewritten}
 use Rattle.laws.specs.Turn.{listBelow}
 use Rattle.laws.proofs.Rewritten.{rewritten-first}
-use Rattle.laws.proofs.Turn.{list-next, list-same}
+use Rattle.laws.proofs.Turn.{list-next}
 use Rattle.excitation.specs.Excitation.{levelsOf}
-use Rattle.excitation.specs.UncertaintySet.{UncertaintySet, code, decode, joinSets, invertSet, empty}
+use Rattle.excitation.specs.UncertaintySet.{UncertaintySet, code, decode, joinSets, invertSet}
 use Rattle.excitation.specs.declared.Join.{Join}
 use Rattle.excitation.proofs.Codes.{code-below, decode-code}
-use Rattle.block.specs.Gate.{gateValue}
+use Rattle.block.specs.Gate.{gateValue, gateSet}
 use Rattle.block.specs.Kind.{kindOf, ruleOf}
-use Rattle.block.proofs.Views.{pin-read}
-use Rattle.block.specs.Accepted.{GateRecord}
 use Rattle.block.specs.declared.Gate.{Gate}
-use Rattle.block.specs.Record.{File, kind, pinCount, pin}
-use Rattle.block.specs.View.{GateRead, pinOf}
+use Rattle.block.specs.View.{pinOf}
 use Rattle.block.specs.declared.kind.Rule.{Rule}
 use Rattle.fill.specs.Codes.{Codes, SettledFrom}
-use Rattle.waveform.specs.Pins.{pinSample, joinedSample, ruledSample, gateSample, Sampled, RowJoined, PinsJoined, Inverted, GateSampled, NetSampled, Delayed}
-use Rattle.waveform.specs.Rows.{Unpacked, sampleIn}
-use Rattle.waveform.specs.Waveform.{envelope, gateFrom}
+use Rattle.waveform.specs.Pins.{pinSample, joinedSample, Sampled, RowJoined, PinsJoined, Inverted, GateSampled, Delayed}
+use Rattle.waveform.specs.Rows.{Unpacked}
+use Rattle.waveform.specs.Waveform.{gateFrom}
 
-module _ (netOf : ℕ → ℕ) (work : List ℕ) (by : Join) where
+module _ (gate : Gate) (work : List ℕ) (by : Join) where
   -- One pin more is joined.
   joined-next : (p k : ℕ) → 1 ≤ p
-      → joinedSample netOf work by (p + 1) k ≡ joinSets (levelsOf by) (joinedSample netOf work by p k) (pinSample netOf work k p)
+      → joinedSample gate work by (p + 1) k ≡ joinSets (levelsOf by) (joinedSample gate work by p k) (pinSample gate work k p)
   unfolding joinedSample
   joined-next p k h =
-      let f : ℕ → UncertaintySet = λ q. pinSample netOf work k (q + 1) in
+      let f : ℕ → UncertaintySet = λ q. pinSample gate work k (q + 1) in
       let e : p + 1 - 1 ≡ p - 1 + 1 = omega arith in
       let g : p - 1 + 1 ≡ p = omega arith in
-      ap (λ m. foldl (joinSets (levelsOf by)) (pinSample netOf work k 0) (listBelow m f)) e
-      ∙ ap (foldl (joinSets (levelsOf by)) (pinSample netOf work k 0)) (list-next (p - 1) f)
-      ∙ foldl-append (joinSets (levelsOf by)) (pinSample netOf work k 0) (listBelow (p - 1) f) (f (p - 1) ∷ [])
-      ∙ ap (λ q. joinSets (levelsOf by) (foldl (joinSets (levelsOf by)) (pinSample netOf work k 0) (listBelow (p - 1) f)) (pinSample netOf work k q)) g
+      ap (λ m. foldl (joinSets (levelsOf by)) (pinSample gate work k 0) (listBelow m f)) e
+      ∙ ap (foldl (joinSets (levelsOf by)) (pinSample gate work k 0)) (list-next (p - 1) f)
+      ∙ foldl-append (joinSets (levelsOf by)) (pinSample gate work k 0) (listBelow (p - 1) f) (f (p - 1) ∷ [])
+      ∙ ap (λ q. joinSets (levelsOf by) (foldl (joinSets (levelsOf by)) (pinSample gate work k 0) (listBelow (p - 1) f)) (pinSample gate work k q)) g
 
   -- The first pin alone.
-  pub first-joined : (n : ℕ) (samples : List ℕ) → n ≤ 257 → Unpacked work (netOf 0) samples → Sampled (joinedSample netOf work by 1) n samples
+  pub first-joined : (n : ℕ) (samples : List ℕ) → n ≤ 257 → Unpacked work (pinOf gate 0) samples → Sampled (joinedSample gate work by 1) n samples
   unfolding joinedSample pinSample listBelow Rattle.laws.specs.Turn.inTurn
   first-joined n samples h u = record {
     long = u .coded .long;
@@ -54,8 +51,8 @@ module _ (netOf : ℕ → ℕ) (work : List ℕ) (by : Join) where
     at = λ k l. ap decode (u .at k (omega arith));
   }
 
-  pub more-joined : (n p : ℕ) (samples after : List ℕ) → 1 ≤ p → Sampled (joinedSample netOf work by p) n samples
-      → RowJoined work (netOf p) by n samples after → Sampled (joinedSample netOf work by (p + 1)) n after
+  pub more-joined : (n p : ℕ) (samples after : List ℕ) → 1 ≤ p → Sampled (joinedSample gate work by p) n samples
+      → RowJoined work (pinOf gate p) by n samples after → Sampled (joinedSample gate work by (p + 1)) n after
   unfolding pinSample
   more-joined n p samples after o s w = record {
     long = w .long ∙ s .long;
@@ -66,9 +63,9 @@ module _ (netOf : ℕ → ℕ) (work : List ℕ) (by : Join) where
 -- The join turned over for a kind that inverts is what the gate makes of its pins.
 pub gate-sampled : (gate : Gate) (work : List ℕ) (rule : Rule) (n : ℕ) (samples after : List ℕ) → rule ≡ ruleOf (kindOf (gate .kind))
     → PinsJoined gate work (rule .join) n samples → Inverted (rule .inverts) n samples after → GateSampled gate work n after
-unfolding ruledSample
-gate-sampled gate work rule n samples after e s i =
-    subst (λ r. Sampled (ruledSample r gate work) n after) e
+unfolding gateFrom gateValue joinedSample
+gate-sampled gate work rule n samples after e s i hops =
+    subst (λ r. Sampled (λ k. gateSet r (pinSample gate work k 0) (listBelow (gate .used - 1) (λ p. pinSample gate work k (p + 1)))) n after) e
     record {
       long = i .long ∙ s .long;
       low = λ k l. subst (λ x. x < 16) (sym (i .at k l)) (low (rule .inverts) k l);
@@ -81,28 +78,9 @@ gate-sampled gate work rule n samples after e s i =
 
     at : (inverts : Bool) (k : ℕ) → k < n
         → decode (cond inverts (code (invertSet (decode (getD samples k 0)))) (getD samples k 0))
-        ≡ cond inverts (invertSet (joinedSample (pinOf gate) work (rule .join) (gate .used) k)) (joinedSample (pinOf gate) work (rule .join) (gate .used) k)
+        ≡ cond inverts (invertSet (joinedSample gate work (rule .join) (gate .used) k)) (joinedSample gate work (rule .join) (gate .used) k)
     at true k l = decode-code _ ∙ ap invertSet (s .at k l)
     at false k l = s .at k l
-
--- Where the gate was read from the record of a net, that is what the net's gate makes of its pins.
-pub net-sampled : (file : File) (net : ℕ) (gate : Gate) (work : List ℕ) (n : ℕ) (samples : List ℕ) → GateRead file net gate → GateRecord file net
-    → GateSampled gate work n samples → NetSampled file net work n samples
-unfolding ruledSample gateFrom gateValue joinedSample pinSample
-net-sampled file net gate work n samples read passed s hops = record {
-  long = s .long;
-  low = s .low;
-  at = λ k l. s .at k l ∙ same k;
-}
-  where
-    pins : (p : ℕ) → p < pinCount file net → pinOf gate p ≡ pin file net p
-    pins p h = pin-read file net gate read (passed .pins-high) p (omega (arith, read .used-is))
-
-    same : (k : ℕ) → gateSample gate work k ≡ gateFrom (envelope hops) file net (pinSample (pin file net) work k)
-    same k =
-        let rest = list-same (pinCount file net - 1) (λ p. decode (sampleIn work (pinOf gate (p + 1)) k)) (λ p. decode (sampleIn work (pin file net (p + 1)) k)) empty
-        (λ p l. ap (λ m. decode (sampleIn work m k)) (pins (p + 1) (omega arith))) in
-        rw (read .kind-is, read .used-is, pins 0 (passed .pins-low), rest) refl
 
 pub inverted-not : (inverts : Bool) (n : ℕ) (given : List ℕ) → inverts ≡ false → Inverted inverts n given given
 inverted-not inverts n given e = rw e record { long = refl; at = λ k l. refl }

@@ -21,7 +21,9 @@ use Rattle.excitation.specs.UncertaintySet.{UncertaintySet, member, empty, sing
 use Rattle.excitation.proofs.Held.{before-held, after-held}
 use Rattle.block.specs.Accepted.{AcceptedFile, GateRecord}
 use Rattle.block.specs.Block.{arrivalFrom, arrivals, arrival, latestPin, switchingTick}
-use Rattle.block.specs.Record.{File, delay, pinCount, pin, isInput}
+use Rattle.block.specs.Record.{File, isInput}
+use Rattle.block.specs.View.{gateOf, pinOf}
+use Rattle.block.specs.declared.Gate.{Gate}
 use Rattle.block.proofs.Accepted.{arrival-at}
 use Rattle.fill.proofs.Filled.{filled-long, filled-not-before, filled-not-after, filled-settled}
 use Rattle.waveform.specs.Waveform.{Waveform, earlier, envelope, inputWaveform, pinWaveform, gateAt, gateWaveform, netWaveform, waveforms}
@@ -63,15 +65,15 @@ input-settles hops switching s in-time = record {
     after-at t h q = list-at 256 set-at t empty q ∙ rw (le-ltb t switching (omega arith), ne-eqb t switching (λ e. omega arith)) refl
 
 -- A gate, from its pins.
-module _ (hops : ℕ) (file : File) (net : ℕ) (gate : GateRecord file net) (below : List (Waveform UncertaintySet)) (latest : ℕ)
+module _ (hops net : ℕ) (gate : Gate) (passed : GateRecord net gate) (below : List (Waveform UncertaintySet)) (latest : ℕ)
     (first arrives : ℕ → ℕ)
-    (settles : (p : ℕ) → p < pinCount file net → Settles (first p) (arrives p) (pinWaveform (envelope hops) file below net p))
-    (soon : (p : ℕ) → p < pinCount file net → arrives p ≤ latest) (in-time : latest + delay file net ≤ 255) where
+    (settles : (p : ℕ) → p < gate .used → Settles (first p) (arrives p) (pinWaveform (envelope hops) gate below p))
+    (soon : (p : ℕ) → p < gate .used → arrives p ≤ latest) (in-time : latest + gate .delay ≤ 255) where
   abbrev D : ℕ
-  D = delay file net
+  D = gate .delay
 
   raw : ℕ → UncertaintySet
-  raw = gateAt (envelope hops) file below net
+  raw = gateAt (envelope hops) gate below
 
   raws : List UncertaintySet
   raws = listBelow 256 raw
@@ -87,29 +89,29 @@ module _ (hops : ℕ) (file : File) (net : ℕ) (gate : GateRecord file net) (be
   early-held : (t : ℕ) → t < D → Held (getD raws t empty)
   unfolding raw gateAt earlier
   early-held t h =
-      subst Held (sym (raws-at t (omega (arith, gate .delay-high))))
-      (from-held hops file net _ (gate .pins-low) (λ p q. rw (lt-ltb t D h) (settles p q .held)))
+      subst Held (sym (raws-at t (omega (arith, passed .ranges .delay-high))))
+      (from-held hops gate _ (passed .pins-low) (λ p q. rw (lt-ltb t D h) (settles p q .held)))
 
   -- A pin at t − D, past its own arrival.
-  pin-late : (t p : ℕ) → latest + D < t → t < 256 → p < pinCount file net
-      → earlier D t (pinWaveform (envelope hops) file below net p) ≡ getD (pinWaveform (envelope hops) file below net p .ticks) 255 empty
+  pin-late : (t p : ℕ) → latest + D < t → t < 256 → p < gate .used
+      → earlier D t (pinWaveform (envelope hops) gate below p) ≡ getD (pinWaveform (envelope hops) gate below p .ticks) 255 empty
   unfolding earlier
   pin-late t p h q r =
       let w = settles p r in
       let s = soon p r in
       rw (le-ltb t D (omega arith))
-      (getD-any (pinWaveform (envelope hops) file below net p .ticks) (t - D) _ empty (omega (arith, w .long)) ∙ w .same (t - D) (omega arith) (omega arith))
+      (getD-any (pinWaveform (envelope hops) gate below p .ticks) (t - D) _ empty (omega (arith, w .long)) ∙ w .same (t - D) (omega arith) (omega arith))
 
   late-held : (t : ℕ) → latest + D < t → t < 256 → Held (raw t)
   unfolding raw gateAt
   late-held t h q =
-      from-held hops file net _ (gate .pins-low)
-      (λ p r. subst Held (sym (pin-late t p h q r)) (settles p r .late 255 (omega (arith, soon p r, gate .delay-low))))
+      from-held hops gate _ (passed .pins-low)
+      (λ p r. subst Held (sym (pin-late t p h q r)) (settles p r .late 255 (omega (arith, soon p r, passed .ranges .delay-low))))
 
   late-same : (t : ℕ) → latest + D < t → t < 256 → raw t ≡ raw 255
   unfolding raw gateAt
   late-same t h q =
-      gate-same (envelope hops) file net _ _ (gate .pins-low) (λ p r. pin-late t p h q r ∙ sym (pin-late 255 p (omega arith) (omega arith) r))
+      gate-same (envelope hops) gate _ _ (passed .pins-low) (λ p r. pin-late t p h q r ∙ sym (pin-late 255 p (omega arith) (omega arith) r))
 
   raws-late : (t : ℕ) → latest + D < t → Held (getD raws t empty)
   raws-late t h =
@@ -121,11 +123,11 @@ module _ (hops : ℕ) (file : File) (net : ℕ) (gate : GateRecord file net) (be
   raws-same s t h k q =
       raws-at t q ∙ late-same t (omega arith) q ∙ sym (late-same s h (omega arith)) ∙ sym (raws-at s (omega arith))
 
-  gate-settles : Settles D (latest + D) (gateWaveform (envelope hops) file below net)
+  gate-settles : Settles D (latest + D) (gateWaveform (envelope hops) gate below)
   unfolding gateWaveform raws raw
   gate-settles = record {
     long = filled-long hops raws ∙ raws-long;
-    held = from-held hops file net _ (gate .pins-low) (λ p q. settles p q .held);
+    held = from-held hops gate _ (passed .pins-low) (λ p q. settles p q .held);
     early = λ t h. record {
       no-hl = filled-not-before hops raws raws-long hl D (λ t h. early-held t h .no-hl) t h;
       no-lh = filled-not-before hops raws raws-long lh D (λ t h. early-held t h .no-lh) t h;
@@ -141,7 +143,7 @@ module _ (hops : ℕ) (file : File) (net : ℕ) (gate : GateRecord file net) (be
 
 -- The first tick at which a net may switch.
 abbrev pub firstTick : File → ℕ → ℕ
-firstTick file net = cond (isInput file net) 0 (delay file net)
+firstTick file net = cond (isInput file net) 0 (gateOf file net .delay)
 
 module _ (file : File) (nets inputs : ℕ) (accepted : AcceptedFile file nets inputs) (hops : ℕ) (sets : List UncertaintySet) where
   unfoldable pub waveformOf : ℕ → Waveform UncertaintySet
@@ -155,41 +157,46 @@ module _ (file : File) (nets inputs : ℕ) (accepted : AcceptedFile file nets in
   unfolding waveformOf
   input-is net e = net-input (envelope hops) file sets _ net e
 
-  gate-is : (net : ℕ) → isInput file net ≡ false → waveformOf net ≡ gateWaveform (envelope hops) file (waveforms (envelope hops) file sets net) net
+  gate-is : (net : ℕ) → isInput file net ≡ false → waveformOf net ≡ gateWaveform (envelope hops) (gateOf file net) (waveforms (envelope hops) file sets net)
   unfolding waveformOf
   gate-is net e = net-gate (envelope hops) file sets _ net e
 
-  input-net : (net : ℕ) → isInput file net ≡ true → Settles (firstTick file net) (arrival file net) (waveformOf net)
+  -- An input arrives at the tick at which it switches.
+  input-net : (net : ℕ) → net < nets → isInput file net ≡ true → Settles (firstTick file net) (arrival file net) (waveformOf net)
   unfolding arrivalFrom
-  input-net net e = rw (e, input-is net e) (input-settles hops (switchingTick file net) (getD sets net (single l)) (omega arith))
+  input-net net h e = rw (e, input-is net e) (input-settles hops (switchingTick file net) (getD sets net (single l)) (in-time (accepted .arrives net h)))
+    where
+      in-time : arrival file net ≤ 255 → switchingTick file net < 256
+      in-time a = let at-most : switchingTick file net ≤ 255 = rw e at a in omega arith
 
-  pin-arrival : (net p : ℕ) → pin file net p < net → p < pinCount file net → arrival file (pin file net p) ≤ latestPin file (arrivals file net) net
+  pin-arrival : (net : ℕ) (gate : Gate) (p : ℕ) → pinOf gate p < net → p < gate .used → arrival file (pinOf gate p) ≤ latestPin gate (arrivals file net)
   unfolding latestPin
-  pin-arrival net p b h =
-      let m = max-at (pinCount file net) (λ p. getD (arrivals file net) (pin file net p) 0) p h in
-      omega (arith, m, arrival-at file net (pin file net p) b)
+  pin-arrival net gate p b h =
+      let m = max-at (gate .used) (λ p. getD (arrivals file net) (pinOf gate p) 0) p h in
+      omega (arith, m, arrival-at file net (pinOf gate p) b)
 
-  gate-net : (net : ℕ) → net < nets → GateRecord file net → ((m : ℕ) → m < net → Settles (firstTick file m) (arrival file m) (waveformOf m))
-      → Settles (firstTick file net) (arrival file net) (waveformOf net)
+  gate-net : (net : ℕ) → net < nets → isInput file net ≡ false → GateRecord net (gateOf file net)
+      → ((m : ℕ) → m < net → Settles (firstTick file m) (arrival file m) (waveformOf m)) → Settles (firstTick file net) (arrival file net) (waveformOf net)
   unfolding arrivalFrom pinWaveform
-  gate-net net h gate settles =
-      rw (gate .gate, gate-is net (gate .gate))
-      (gate-settles hops file net gate (waveforms (envelope hops) file sets net) (latestPin file (arrivals file net) net)
-      (λ p. firstTick file (pin file net p)) (λ p. arrival file (pin file net p))
-      (λ p q. let b = gate .pin-below p q in
-      subst (Settles (firstTick file (pin file net p)) (arrival file (pin file net p))) (sym (waveform-at net (pin file net p) _ b)) (settles (pin file net p) b))
-      (λ p q. pin-arrival net p (gate .pin-below p q) q)
+  gate-net net h e passed settles =
+      let gate = gateOf file net in
+      rw (e, gate-is net e)
+      (gate-settles hops net gate passed (waveforms (envelope hops) file sets net) (latestPin gate (arrivals file net))
+      (λ p. firstTick file (pinOf gate p)) (λ p. arrival file (pinOf gate p))
+      (λ p q. let b = passed .pin-below p q in
+      subst (Settles (firstTick file (pinOf gate p)) (arrival file (pinOf gate p))) (sym (waveform-at net (pinOf gate p) _ b)) (settles (pinOf gate p) b))
+      (λ p q. pin-arrival net gate p (passed .pin-below p q) q)
       (in-time (accepted .arrives net h)))
     where
-      in-time : arrival file net ≤ 255 → latestPin file (arrivals file net) net + delay file net ≤ 255
-      in-time a = rw (gate .gate) at a
+      in-time : arrival file net ≤ 255 → latestPin (gateOf file net) (arrivals file net) + gateOf file net .delay ≤ 255
+      in-time a = rw e at a
 
   net-from : (net : ℕ) → net < nets → ((m : ℕ) → m < net → Settles (firstTick file m) (arrival file m) (waveformOf m))
       → Settles (firstTick file net) (arrival file net) (waveformOf net)
   net-from net h below =
       cases (ltb net inputs)
-      (λ b. input-net net (accepted .input net (ltb-true net inputs b) .input))
-      (λ b. gate-net net h (accepted .gate net (ltb-false net inputs b) h) below)
+      (λ b. input-net net h (accepted .input net (ltb-true net inputs b) .input))
+      (λ b. let gates = ltb-false net inputs b in gate-net net h (accepted .no-input net gates h) (accepted .gate net gates h) below)
 
   settles-below : (n : ℕ) → n ≤ nets → (m : ℕ) → m < n → Settles (firstTick file m) (arrival file m) (waveformOf m)
   settles-below zero h m l = absurd (not-suc-le-zero l)

@@ -1,6 +1,6 @@
 -- A simulation is the envelope of sets of one member with nothing filled: one engine serves both.
 -- Assumes nothing.
-use Prim.Native.Nat.{ℕ, zero, suc, _+_, _-_, _≤_}
+use Prim.Native.Nat.{ℕ, zero, suc, _-_, _≤_}
 use mathlib.Core.Bool.{cond}
 use mathlib.Core.List.{List, [], _∷_, _++_, map, map-append}
 use mathlib.Core.Path.{_≡_, refl, ap, sym, _∙_, fun-ext}
@@ -14,7 +14,9 @@ use Rattle.excitation.specs.UncertaintySet.{UncertaintySet, single, heldBeforeS
 use Rattle.excitation.specs.declared.Excitation.{Excitation}
 use Rattle.excitation.proofs.OneMember.{each-single}
 use Rattle.block.specs.Block.{switchingTick}
-use Rattle.block.specs.Record.{File, delay, pin, isInput}
+use Rattle.block.specs.Record.{File, isInput}
+use Rattle.block.specs.View.{gateOf, pinOf}
+use Rattle.block.specs.declared.Gate.{Gate}
 use Rattle.fill.proofs.Filled.{filled-none}
 use Rattle.waveform.specs.Waveform.{Waveform, earlier, simulation, envelope, inputWaveform, gateFrom, pinWaveform, gateAt, gateWaveform, netWaveform, waveforms}
 use Rattle.waveform.proofs.Gates.{from-single}
@@ -43,35 +45,37 @@ module _ (hops : ℕ) (enough : 128 ≤ hops) where
           (λ b. rw b (each-single heldBefore e))
           (λ b. rw b (cases (eqb t switching) (λ c. rw c refl) (λ c. rw c (each-single heldAfter e))))
 
-  module _ (file : File) (vs : List (Waveform Excitation)) where
-    pin-single : (net p : ℕ) → pinWaveform (envelope hops) file (map singles vs) net p ≡ singles (pinWaveform simulation file vs net p)
+  module _ (vs : List (Waveform Excitation)) where
+    pin-single : (gate : Gate) (p : ℕ) → pinWaveform (envelope hops) gate (map singles vs) p ≡ singles (pinWaveform simulation gate vs p)
     unfolding pinWaveform
-    pin-single net p = List·getD-map singles vs (pin file net p) (record { before = l; ticks = [] })
+    pin-single gate p = List·getD-map singles vs (pinOf gate p) (record { before = l; ticks = [] })
 
-    at-single : (net t : ℕ) → gateAt (envelope hops) file (map singles vs) net t ≡ single (gateAt simulation file vs net t)
+    at-single : (gate : Gate) (t : ℕ) → gateAt (envelope hops) gate (map singles vs) t ≡ single (gateAt simulation gate vs t)
     unfolding gateAt
-    at-single net t =
-        ap (gateFrom (envelope hops) file net) (fun-ext (λ p. ap (earlier (delay file net) t) (pin-single net p) ∙ earlier-single (delay file net) t (pinWaveform simulation file vs net p)))
-        ∙ from-single hops file net (λ p. earlier (delay file net) t (pinWaveform simulation file vs net p))
+    at-single gate t =
+        ap (gateFrom (envelope hops) gate) (fun-ext (λ p. ap (earlier (gate .delay) t) (pin-single gate p) ∙ earlier-single (gate .delay) t (pinWaveform simulation gate vs p)))
+        ∙ from-single hops gate (λ p. earlier (gate .delay) t (pinWaveform simulation gate vs p))
 
-    gate-single : (net : ℕ) → gateWaveform (envelope hops) file (map singles vs) net ≡ singles (gateWaveform simulation file vs net)
+    gate-single : (gate : Gate) → gateWaveform (envelope hops) gate (map singles vs) ≡ singles (gateWaveform simulation gate vs)
     unfolding gateWaveform
-    gate-single net =
+    gate-single gate =
         waveform-is _ _
-        (ap (gateFrom (envelope hops) file net) (fun-ext (λ p. ap (λ w. w .before) (pin-single net p))) ∙ from-single hops file net (λ p. pinWaveform simulation file vs net p .before))
-        (filled-none hops (listBelow 256 (gateAt (envelope hops) file (map singles vs) net)) enough (list-long 256 _)
-        ∙ list-is 256 (λ t. single (gateAt simulation file vs net t)) (single l) _ (list-long 256 _) (λ t h. list-at 256 _ t (single l) h ∙ at-single net t)
-        ∙ sym (list-map single 256 (gateAt simulation file vs net)))
+        (ap (gateFrom (envelope hops) gate) (fun-ext (λ p. ap (λ w. w .before) (pin-single gate p))) ∙ from-single hops gate (λ p. pinWaveform simulation gate vs p .before))
+        (filled-none hops (listBelow 256 (gateAt (envelope hops) gate (map singles vs))) enough (list-long 256 _)
+        ∙ list-is 256 (λ t. single (gateAt simulation gate vs t)) (single l) _ (list-long 256 _) (λ t h. list-at 256 _ t (single l) h ∙ at-single gate t)
+        ∙ sym (list-map single 256 (gateAt simulation gate vs)))
 
-    net-single : (pattern : List Excitation) (net : ℕ)
+    net-single : (file : File) (pattern : List Excitation) (net : ℕ)
         → netWaveform (envelope hops) file (map single pattern) (map singles vs) net ≡ singles (netWaveform simulation file pattern vs net)
-    net-single pattern net =
+    net-single file pattern net =
         cases (isInput file net)
         (λ e. net-input (envelope hops) file (map single pattern) (map singles vs) net e
         ∙ ap (inputWaveform (envelope hops) (switchingTick file net)) (List·getD-map single pattern net l)
         ∙ input-single (switchingTick file net) (getD pattern net l)
         ∙ ap singles (sym (net-input simulation file pattern vs net e)))
-        (λ e. net-gate (envelope hops) file (map single pattern) (map singles vs) net e ∙ gate-single net ∙ ap singles (sym (net-gate simulation file pattern vs net e)))
+        (λ e. net-gate (envelope hops) file (map single pattern) (map singles vs) net e
+        ∙ gate-single (gateOf file net)
+        ∙ ap singles (sym (net-gate simulation file pattern vs net e)))
 
   pub waveforms-single : (file : File) (pattern : List Excitation) (n : ℕ)
       → waveforms (envelope hops) file (map single pattern) n ≡ map singles (waveforms simulation file pattern n)
@@ -81,5 +85,5 @@ module _ (hops : ℕ) (enough : 128 ≤ hops) where
       let made = waveforms-single file pattern n in
       let vs = waveforms simulation file pattern n in
       ap (λ ws. ws ++ (netWaveform (envelope hops) file (map single pattern) ws n ∷ [])) made
-      ∙ ap (λ w. map singles vs ++ (w ∷ [])) (net-single file vs pattern n)
+      ∙ ap (λ w. map singles vs ++ (w ∷ [])) (net-single vs file pattern n)
       ∙ sym (map-append singles vs (netWaveform simulation file pattern vs n ∷ []))

@@ -1,12 +1,13 @@
 -- Laws of waveforms and of what a gate makes of its pins.
 -- Assumes nothing.
-use Prim.Native.Nat.{ℕ, _-_}
+use Prim.Native.Nat.{ℕ}
 use mathlib.Core.Bool.{true, false}
 use mathlib.Core.List.{List}
 use mathlib.Core.Path.{_≡_, refl}
 use lib.ListN.{getD}
 use Rattle.block.specs.Block.{switchingTick}
 use Rattle.block.specs.Record.{File, isInput}
+use Rattle.block.specs.View.{gateOf}
 use Rattle.waveform.specs.Waveform.{Waveform, Values, inputWaveform, gateWaveform, netWaveform}
 
 -- A waveform is what it has before tick 0 and at its ticks.
@@ -21,6 +22,6 @@ unfolding netWaveform
 net-input 𝓥 file inputs below net e = rw (e, netWaveform) refl
 
 pub net-gate : (𝓥 : Values) (file : File) (inputs : List (𝓥 .Value)) (below : List (Waveform (𝓥 .Value))) (net : ℕ) → isInput file net ≡ false
-    → netWaveform 𝓥 file inputs below net ≡ gateWaveform 𝓥 file below net
+    → netWaveform 𝓥 file inputs below net ≡ gateWaveform 𝓥 (gateOf file net) below
 unfolding netWaveform
 net-gate 𝓥 file inputs below net e = rw (e, netWaveform) refl

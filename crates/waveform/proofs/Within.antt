@@ -17,7 +17,9 @@ use Rattle.excitation.specs.declared.Excitation.{Excitation}
 use Rattle.excitation.proofs.OneMember.{member-single}
 use Rattle.excitation.proofs.Sets.{each-contains, same-self}
 use Rattle.block.specs.Block.{Choice, switchingTick}
-use Rattle.block.specs.Record.{File, delay, pin, isInput}
+use Rattle.block.specs.Record.{File, isInput}
+use Rattle.block.specs.View.{gateOf, pinOf}
+use Rattle.block.specs.declared.Gate.{Gate}
 use Rattle.fill.specs.Fill.{filled}
 use Rattle.fill.proofs.Filled.{filled-long, filled-adds}
 use Rattle.waveform.specs.Waveform.{Waveform, earlier, simulation, envelope, inputWaveform, pinWaveform, gateAt, gateWaveform, netWaveform, waveforms}
@@ -55,33 +57,33 @@ module _ (hops : ℕ) where
       pairs-from _∈_ l empty es (filled hops ss) (pairs-long _∈_ h ∙ sym (filled-long hops ss))
       (λ t q. filled-adds hops ss long (getD es t l) t (pairs-in _∈_ h l empty t q))
 
-  module _ (file : File) (vs : List (Waveform Excitation)) (ws : List (Waveform UncertaintySet)) (below : Forall₂ Within vs ws) where
-    pin-within : (net p : ℕ) → Within (pinWaveform simulation file vs net p) (pinWaveform (envelope hops) file ws net p)
+  module _ (vs : List (Waveform Excitation)) (ws : List (Waveform UncertaintySet)) (below : Forall₂ Within vs ws) where
+    pin-within : (gate : Gate) (p : ℕ) → Within (pinWaveform simulation gate vs p) (pinWaveform (envelope hops) gate ws p)
     unfolding pinWaveform
-    pin-within net p = pairs-at Within below _ _ (record { before = none-within; ticks = Forall₂·nil }) (pin file net p)
+    pin-within gate p = pairs-at Within below _ _ (record { before = none-within; ticks = Forall₂·nil }) (pinOf gate p)
 
-    at-within : (net t : ℕ) → gateAt simulation file vs net t ∈ gateAt (envelope hops) file ws net t
+    at-within : (gate : Gate) (t : ℕ) → gateAt simulation gate vs t ∈ gateAt (envelope hops) gate ws t
     unfolding gateAt
-    at-within net t = from-within hops file net _ _ (λ p. earlier-within (delay file net) t _ _ (pin-within net p))
+    at-within gate t = from-within hops gate _ _ (λ p. earlier-within (gate .delay) t _ _ (pin-within gate p))
 
-    gate-within : (net : ℕ) → Within (gateWaveform simulation file vs net) (gateWaveform (envelope hops) file ws net)
+    gate-within : (gate : Gate) → Within (gateWaveform simulation gate vs) (gateWaveform (envelope hops) gate ws)
     unfolding gateWaveform
-    gate-within net = record {
-      before = from-within hops file net _ _ (λ p. pin-within net p .before);
-      ticks = filled-contains (list-long 256 (gateAt (envelope hops) file ws net)) (pairs-list _∈_ 256 _ _ (λ t h. at-within net t));
+    gate-within gate = record {
+      before = from-within hops gate _ _ (λ p. pin-within gate p .before);
+      ticks = filled-contains (list-long 256 (gateAt (envelope hops) gate ws)) (pairs-list _∈_ 256 _ _ (λ t h. at-within gate t));
     }
 
-    net-within : {pattern : List Excitation} {sets : List UncertaintySet} → Choice pattern sets → (net : ℕ)
+    net-within : (file : File) {pattern : List Excitation} {sets : List UncertaintySet} → Choice pattern sets → (net : ℕ)
         → Within (netWaveform simulation file pattern vs net) (netWaveform (envelope hops) file sets ws net)
     unfolding netWaveform
-    net-within {pattern} {sets} choice net = go (isInput file net)
+    net-within file {pattern} {sets} choice net = go (isInput file net)
       where
         go : (input : Bool)
             → Within
-            (elim input [ true ↦ inputWaveform simulation (switchingTick file net) (getD pattern net l) | false ↦ gateWaveform simulation file vs net ])
-            (elim input [ true ↦ inputWaveform (envelope hops) (switchingTick file net) (getD sets net (single l)) | false ↦ gateWaveform (envelope hops) file ws net ])
+            (elim input [ true ↦ inputWaveform simulation (switchingTick file net) (getD pattern net l) | false ↦ gateWaveform simulation (gateOf file net) vs ])
+            (elim input [ true ↦ inputWaveform (envelope hops) (switchingTick file net) (getD sets net (single l)) | false ↦ gateWaveform (envelope hops) (gateOf file net) ws ])
         go true = input-within (switchingTick file net) _ _ (pairs-at _∈_ choice l (single l) none-within net)
-        go false = gate-within net
+        go false = gate-within (gateOf file net)
 
   -- The waveforms of a pattern's simulation lie within those of any case's envelope of which it is a choice.
   pub waveforms-within : (file : File) {pattern : List Excitation} {sets : List UncertaintySet} → Choice pattern sets → (n : ℕ)
@@ -90,4 +92,4 @@ module _ (hops : ℕ) where
   waveforms-within file choice zero = Forall₂·nil
   waveforms-within file {pattern} {sets} choice (suc n) =
       let below = waveforms-within file choice n in
-      pairs-append Within below (Forall₂·cons (net-within file _ _ below choice n) Forall₂·nil)
+      pairs-append Within below (Forall₂·cons (net-within _ _ below file choice n) Forall₂·nil)

@@ -8,22 +8,19 @@ use Rattle.laws.specs.Turn.{listBelow}
 use Rattle.excitation.specs.Excitation.{levelsOf}
 use Rattle.excitation.specs.UncertaintySet.{UncertaintySet, code, decode, joinSets, invertSet}
 use Rattle.excitation.specs.declared.Join.{Join}
-use Rattle.block.specs.Kind.{kindOf, ruleOf}
-use Rattle.block.specs.Record.{File, pin}
 use Rattle.block.specs.View.{pinOf}
 use Rattle.block.specs.declared.Gate.{Gate}
-use Rattle.block.specs.declared.kind.Rule.{Rule}
 use Rattle.waveform.specs.Rows.{sampleIn}
 use Rattle.waveform.specs.Waveform.{envelope, gateFrom}
 
--- The set of pin p at sample k, given the net of each pin.
-unfoldable pub pinSample : (ℕ → ℕ) → List ℕ → ℕ → ℕ → UncertaintySet
-pinSample netOf work k p = decode (sampleIn work (netOf p) k)
+-- The set of pin p of a gate at sample k.
+unfoldable pub pinSample : Gate → List ℕ → ℕ → ℕ → UncertaintySet
+pinSample gate work k p = decode (sampleIn work (pinOf gate p) k)
 
 -- The join of the first `pins` pins of a gate at sample k, left to right.
-unfoldable pub joinedSample : (ℕ → ℕ) → List ℕ → Join → ℕ → ℕ → UncertaintySet
-joinedSample netOf work by pins k =
-    foldl (joinSets (levelsOf by)) (pinSample netOf work k 0) (listBelow (pins - 1) (λ p. pinSample netOf work k (p + 1)))
+unfoldable pub joinedSample : Gate → List ℕ → Join → ℕ → ℕ → UncertaintySet
+joinedSample gate work by pins k =
+    foldl (joinSets (levelsOf by)) (pinSample gate work k 0) (listBelow (pins - 1) (λ p. pinSample gate work k (p + 1)))
 
 -- The first n samples hold sets given by a rule.
 pub record Sampled (rule : ℕ → UncertaintySet) (n : ℕ) (samples : List ℕ) : Type 0 where
@@ -38,29 +35,16 @@ pub record RowJoined (work : List ℕ) (net : ℕ) (by : Join) (n : ℕ) (given 
 
 -- The first n samples hold the join of a gate's pins.
 abbrev pub PinsJoined : Gate → List ℕ → Join → ℕ → List ℕ → Type 0
-PinsJoined gate work by n samples = Sampled (joinedSample (pinOf gate) work by (gate .used)) n samples
+PinsJoined gate work by n samples = Sampled (joinedSample gate work by (gate .used)) n samples
 
 -- The first n samples turned over, or not.
 pub record Inverted (inverts : Bool) (n : ℕ) (given after : List ℕ) : Type 0 where
   pub long : length after ≡ length given
   pub at : (k : ℕ) → k < n → getD after k 0 ≡ cond inverts (code (invertSet (decode (getD given k 0)))) (getD given k 0)
 
--- The join of a gate's pins at sample k by a rule, turned over where the rule inverts.
-unfoldable pub ruledSample : Rule → Gate → List ℕ → ℕ → UncertaintySet
-ruledSample rule gate work k =
-    let joined = joinedSample (pinOf gate) work (rule .join) (gate .used) k in
-    cond (rule .inverts) (invertSet joined) joined
-
--- What a gate makes of its pins at sample k.
-abbrev pub gateSample : Gate → List ℕ → ℕ → UncertaintySet
-gateSample gate = ruledSample (ruleOf (kindOf (gate .kind))) gate
-
--- The first n samples hold what a gate makes of its pins, and what the gate of a net does.
+-- The first n samples hold what a gate makes of its pins, whatever the hop limit.
 abbrev pub GateSampled : Gate → List ℕ → ℕ → List ℕ → Type 0
-GateSampled gate work n samples = Sampled (gateSample gate work) n samples
-
-abbrev pub NetSampled : File → ℕ → List ℕ → ℕ → List ℕ → Type 0
-NetSampled file net work n samples = (hops : ℕ) → Sampled (λ k. gateFrom (envelope hops) file net (pinSample (pin file net) work k)) n samples
+GateSampled gate work n samples = (hops : ℕ) → Sampled (λ k. gateFrom (envelope hops) gate (pinSample gate work k)) n samples
 
 -- The codes d ticks after the samples, which are the same from tick `last` + 1 on.
 pub record Delayed (d last : ℕ) (samples codes : List ℕ) : Type 0 where

@@ -9,7 +9,6 @@ use Rattle.laws.specs.Below.{maxBelow}
 use Rattle.laws.specs.Turn.{listBelow}
 use Rattle.excitation.specs.UncertaintySet.{UncertaintySet, decode, empty}
 use Rattle.block.specs.Accepted.{GateRecord}
-use Rattle.block.specs.Record.{File, HasRecord, delay, pinCount, pin}
 use Rattle.block.specs.View.{pinOf}
 use Rattle.block.specs.declared.Gate.{Gate}
 use Rattle.fill.specs.Codes.{Codes, setsOf}
@@ -87,12 +86,12 @@ pub record HasPinRows (work : List ℕ) (gate : Gate) : Type 0 where
   pub row : (p : ℕ) → p < gate .used → HasRow work (pinOf gate p)
 
 -- The greatest arrival of a gate's pins, as the buffer has it.
-unfoldable pub latestIn : File → List ℕ → ℕ → ℕ
-latestIn file work net = maxBelow (pinCount file net) (λ p. arrivalIn work (pin file net p))
+unfoldable pub latestIn : Gate → List ℕ → ℕ
+latestIn gate work = maxBelow (gate .used) (λ p. arrivalIn work (pinOf gate p))
 
 -- The tick after which all pins of a gate stay the same, as the buffer has it.
-unfoldable pub pinsLastIn : File → List ℕ → ℕ → ℕ
-pinsLastIn file work net = maxBelow (pinCount file net) (λ p. lastIn work (pin file net p))
+unfoldable pub pinsLastIn : Gate → List ℕ → ℕ
+pinsLastIn gate work = maxBelow (gate .used) (λ p. lastIn work (pinOf gate p))
 
 -- Codes whose sets are the same at all ticks after tick `last`.
 pub record SameAfter (last : ℕ) (codes : List ℕ) : Type 0 where
@@ -104,19 +103,18 @@ pub record LastChange (arrival : ℕ) (codes : List ℕ) (last : ℕ) : Type 0 w
   pub after : SameAfter last codes
   pub at-end : arrival ≡ 255 → last ≡ 255
 
--- A gate whose waveform can be made: its record, room for the rows, and settled pins.
-pub record Ready (file : File) (net : ℕ) (work : List ℕ) : Type 0 where
-  pub has-record : HasRecord file net
-  pub gate : GateRecord file net
+-- The gate of a net whose waveform can be made: its fields passed, there is room for the rows, and its pins are settled.
+pub record Ready (net : ℕ) (gate : Gate) (work : List ℕ) : Type 0 where
+  pub checked : GateRecord net gate
   pub room : HasRow work net
-  pub settled : (p : ℕ) → p < pinCount file net → SettledRow work (pin file net p)
-  pub in-time : latestIn file work net + delay file net ≤ 255
+  pub settled : (p : ℕ) → p < gate .used → SettledRow work (pinOf gate p)
+  pub in-time : latestIn gate work + gate .delay ≤ 255
 
--- The buffer after the waveform of a gate was made, and the codes of its sets. One that arrives at tick 255 may switch there.
-pub record GateMade (file : File) (net hops : ℕ) (work after codes : List ℕ) : Type 0 where
+-- The buffer after the waveform of the gate of a net was made, and the codes of its sets. One that arrives at tick 255 may switch there.
+pub record GateMade (net : ℕ) (gate : Gate) (hops : ℕ) (work after codes : List ℕ) : Type 0 where
   pub others : OthersKept net work after
-  pub waveform : waveformIn after net ≡ gateWaveform (envelope hops) file (waveformsIn work net) net
-  pub arrives : arrivalIn after net ≡ latestIn file work net + delay file net
+  pub waveform : waveformIn after net ≡ gateWaveform (envelope hops) gate (waveformsIn work net)
+  pub arrives : arrivalIn after net ≡ latestIn gate work + gate .delay
   pub settled : SettledRow after net
   pub at-end : arrivalIn after net ≡ 255 → lastIn after net ≡ 255
   pub coded : Codes codes

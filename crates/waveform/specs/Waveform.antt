@@ -12,7 +12,9 @@ use Rattle.excitation.specs.declared.Excitation.{Excitation}
 use Rattle.block.specs.Block.{switchingTick}
 use Rattle.block.specs.Gate.{gateValue}
 use Rattle.block.specs.Kind.{kindOf, ruleOf}
-use Rattle.block.specs.Record.{File, kind, delay, pinCount, pin, isInput}
+use Rattle.block.specs.Record.{File, isInput}
+use Rattle.block.specs.View.{gateOf, pinOf}
+use Rattle.block.specs.declared.Gate.{Gate}
 use Rattle.fill.specs.Fill.{filled}
 
 -- A waveform: what a net has before tick 0, and what it has at ticks 0 to 255.
@@ -77,22 +79,21 @@ module _ (𝓥 : Values) where
   }
 
   -- What a gate has, from what each of its pins has.
-  unfoldable pub gateFrom : File → ℕ → (ℕ → Value) → Value
-  gateFrom file net onPin =
-      gateValue join invert (ruleOf (kindOf (kind file net))) (onPin 0) (listBelow (pinCount file net - 1) (λ p. onPin (p + 1)))
+  unfoldable pub gateFrom : Gate → (ℕ → Value) → Value
+  gateFrom gate onPin = gateValue join invert (ruleOf (kindOf (gate .kind))) (onPin 0) (listBelow (gate .used - 1) (λ p. onPin (p + 1)))
 
   -- The waveform of the net on pin p of a gate, from those of the nets below it.
-  unfoldable pub pinWaveform : File → List (Waveform Value) → ℕ → ℕ → Waveform Value
-  pinWaveform file below net p = getD below (pin file net p) (record { before = none; ticks = [] })
+  unfoldable pub pinWaveform : Gate → List (Waveform Value) → ℕ → Waveform Value
+  pinWaveform gate below p = getD below (pinOf gate p) (record { before = none; ticks = [] })
 
   -- A gate at tick t has the join of its pins at t − D; in an envelope that is its raw set.
-  unfoldable pub gateAt : File → List (Waveform Value) → ℕ → ℕ → Value
-  gateAt file below net t = gateFrom file net (λ p. earlier (delay file net) t (pinWaveform file below net p))
+  unfoldable pub gateAt : Gate → List (Waveform Value) → ℕ → Value
+  gateAt gate below t = gateFrom gate (λ p. earlier (gate .delay) t (pinWaveform gate below p))
 
-  unfoldable pub gateWaveform : File → List (Waveform Value) → ℕ → Waveform Value
-  gateWaveform file below net = record {
-    before = gateFrom file net (λ p. pinWaveform file below net p .before);
-    ticks = fill (listBelow 256 (gateAt file below net));
+  unfoldable pub gateWaveform : Gate → List (Waveform Value) → Waveform Value
+  gateWaveform gate below = record {
+    before = gateFrom gate (λ p. pinWaveform gate below p .before);
+    ticks = fill (listBelow 256 (gateAt gate below));
   }
 
   -- The waveform of a net, from those of the nets below it and the inputs' values.
@@ -100,7 +101,7 @@ module _ (𝓥 : Values) where
   netWaveform file inputs below net =
       elim (isInput file net) [
         | true ↦ inputWaveform (switchingTick file net) (getD inputs net none)
-        | false ↦ gateWaveform file below net
+        | false ↦ gateWaveform (gateOf file net) below
       ]
 
   -- The waveforms of the first n nets.

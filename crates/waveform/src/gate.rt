@@ -3,16 +3,13 @@ ghost use mathlib.Core.Path.{_≡_};
 ghost use Prim.Native.Nat.{_+_, _≤_, _<_, min};
 ghost use lib.ListN.{length};
 ghost use Rattle.excitation.specs.Table.{joinTable};
-ghost use Rattle.laws.specs.Below.{maxBelow};
-ghost use Rattle.block.specs.View.{pinOf};
-ghost use Rattle.waveform.specs.Rows.{HasPinRows, arrivalIn, lastIn, SameAfter, LastChange, Ready, GateMade};
+ghost use Rattle.waveform.specs.Rows.{HasPinRows, latestIn, pinsLastIn, lastIn, SameAfter, LastChange, Ready, GateMade};
 ghost use Rattle.waveform.specs.Pins.{PinsJoined, Inverted, GateSampled, Delayed};
 use super::join;
 use super::row;
 use super::stretch;
 use block::Gate;
 use block::Net;
-use block::view;
 use excitation::Join;
 
 // The greatest arrival of some nets, and the tick after which all of them stay the same.
@@ -24,15 +21,15 @@ struct Latest {
 // The greatest arrival of a gate's pins, and the tick after which they stay the same.
 fn latest_pin(gate: Gate, work: &[u8]) -> Latest
     requires { ⌜ HasPinRows (now work) gate ⌝ }
-    ensures { λ r. ⌜ (r .arrival ≡ maxBelow (gate .used) (λ p. arrivalIn (now (work .entry)) (pinOf gate p))) × (r .last ≡ maxBelow (gate .used) (λ p. lastIn (now (work .entry)) (pinOf gate p))) × (r .arrival < 256) × (r .last < 256) ⌝ }
+    ensures { λ r. ⌜ (r .arrival ≡ latestIn gate (now (work .entry))) × (r .last ≡ pinsLastIn gate (now (work .entry))) × (r .arrival < 256) × (r .last < 256) ⌝ }
 {
     let mut arrival: usize = 0;
     let mut last: usize = 0;
     let mut p: usize = 0;
     while p < gate.used {
         let source = gate.pins[p];
-        arrival = block::greater(arrival, row::arrival(work, source));
-        last = block::greater(last, row::last(work, source));
+        arrival = numbers::max_usize(arrival, row::arrival(work, source));
+        last = numbers::max_usize(last, row::last(work, source));
         p += 1;
     }
     Latest { arrival, last }
@@ -114,18 +111,17 @@ fn last_change(codes: &[u8], bound: usize, arrival: usize) -> usize
 
 // Makes the waveform of a gate. The codes of its sets stay in `codes`; the tick after which they are the same is returned.
 pub fn gate_waveform(
-    file: &[u8],
     net: Net,
+    gate: Gate,
     joins: &[u8],
     hops: usize,
     work: &mut [u8],
     codes: &mut [u8],
 ) -> usize
-    requires { ⌜ Ready (now file) (net .0) (now work) × (length (now codes) ≡ 256) × (1 ≤ hops) × (now joins ≡ joinTable) ⌝ }
-    ensures { λ r. ⌜ GateMade (now (file .entry)) (net .0) hops (now (work .entry)) (now (work .exit)) (now (codes .exit)) × (r ≡ lastIn (now (work .exit)) (net .0)) ⌝ }
+    requires { ⌜ Ready (net .0) gate (now work) × (length (now codes) ≡ 256) × (1 ≤ hops) × (now joins ≡ joinTable) ⌝ }
+    ensures { λ r. ⌜ GateMade (net .0) gate hops (now (work .entry)) (now (work .exit)) (now (codes .exit)) × (r ≡ lastIn (now (work .exit)) (net .0)) ⌝ }
 {
     let mut samples = [0u8; 257];
-    let gate = view::gate(file, net);
     let latest = latest_pin(gate, work);
     let pins_last = latest.last;
     let d = gate.delay;

@@ -15,7 +15,7 @@ pub fn input_waveform(work: &mut [u8], net: Net, code: u8, switching: u8)
     let set = Set { code };
     let before = set.held_before();
     let after = set.held_after();
-    let tick = block::wide(switching);
+    let tick = numbers::usize_from_u8(switching);
     stretch::hold(&mut codes, 0, tick, before.code);
     codes[tick] = code;
     stretch::hold(&mut codes, tick + 1, 256, after.code);

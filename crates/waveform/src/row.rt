@@ -23,7 +23,7 @@ pub fn arrival(work: &[u8], net: Net) -> usize
     ensures { λ r. ⌜ (r ≡ arrivalIn (now (work .entry)) (net .0)) × (r < 256) ⌝ }
 {
     let at = start(net);
-    block::wide(work[at + 129])
+    numbers::usize_from_u8(work[at + 129])
 }
 
 // The tick after which the sets of a net are the same.
@@ -32,7 +32,7 @@ pub fn last(work: &[u8], net: Net) -> usize
     ensures { λ r. ⌜ (r ≡ lastIn (now (work .entry)) (net .0)) × (r < 256) ⌝ }
 {
     let at = start(net);
-    block::wide(work[at + 130])
+    numbers::usize_from_u8(work[at + 130])
 }
 
 // The samples of a net: before tick 0, then at ticks 0 to 255.

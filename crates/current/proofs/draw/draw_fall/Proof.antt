@@ -1,19 +1,22 @@
 -- `current::draw::draw_fall` meets its contract.
 -- Assumes nothing.
 use Prim.Native.Nat.{_+_, _-_, _≤_}
-use mathlib.Core.Path.{_≡_}
+use mathlib.Core.Path.{_≡_, ap, _∙_}
 use native.Mathlib.Omega.{arith}
 use borrow.Author.Needs.{needs}
-use Rattle.current.specs.Runs.{raisedToPulse}
-use Rattle.current.specs.Words.{WordsWritten}
+use Rattle.laws.specs.Rewritten.{Rewritten}
+use Rattle.laws.proofs.Rewritten.{rewritten-none, rewritten-to}
+use Rattle.current.specs.Pulse.{pulse}
+use Rattle.current.specs.Runs.{raisedTo}
 use Rattle.current.proofs.Pulses.{fall-level}
-use Rattle.current.proofs.Rows.{to-pulse}
-use Rattle.current.proofs.Words.{written-none, written-next}
+use Rattle.current.proofs.Rows.{raised-next}
 use Rattle.current.proofs.draw.draw_fall.Statement.{statement}
 use Rattle.current.proofs.draw.draw_fall.Tie as tie
 
 abbrev Inv-loop : tie.InvT-loop
-Inv-loop row₀ pulse start end k₀ row k = (pulse .rise + 1 ≤ k) × (k ≤ end) × WordsWritten (start + (pulse .rise + 1)) (start + k) (raisedToPulse row₀ (pulse .peak) (pulse .rise) (pulse .fall) start) row₀ row
+Inv-loop row₀ p start end k₀ row k =
+    (p .rise + 1 ≤ k) × (k ≤ end)
+    × Rewritten (raisedTo row₀ (start + (p .rise + 1)) (λ j. pulse (p .peak) (p .rise) (p .fall) (p .rise + 1 + j))) (start + (p .rise + 1)) (k - (p .rise + 1)) row₀ row
 
 abbrev μ-loop : tie.MeasureT-loop
 μ-loop row₀ pulse start end k₀ row k = end - k
@@ -25,16 +28,16 @@ add-k : tie.Need-add-k Inv-loop μ-loop
 add-k c = let range = c .before .before .before .pre .1 .range in omega (arith, range .rise-high)
 
 loop-holds : tie.Need-loop-holds Inv-loop μ-loop
-loop-holds c = let range = c .before .before .before .pre .1 .range in (omega arith, omega (arith, range .fall-low), written-none _ _ _ _ (omega arith))
+loop-holds c = let range = c .before .before .before .pre .1 .range in (omega arith, omega (arith, range .fall-low), rewritten-to _ _ 0 _ _ _ (omega arith) (rewritten-none _ _ _))
 
-add-greater : tie.Need-add-greater Inv-loop μ-loop
-add-greater c = let range = c .before .before .before .before .before .pre .1 .range in omega (arith, range .rise-high, range .fall-high)
+add-max-u32 : tie.Need-add-max-u32 Inv-loop μ-loop
+add-max-u32 c = let range = c .before .before .before .before .before .pre .1 .range in omega (arith, range .rise-high, range .fall-high)
 
-mul-greater : tie.Need-mul-greater Inv-loop μ-loop
-mul-greater c = search needs
+mul-max-u32 : tie.Need-mul-max-u32 Inv-loop μ-loop
+mul-max-u32 c = search needs
 
-slice-read-greater : tie.Need-slice-read-greater Inv-loop μ-loop
-slice-read-greater c = let range = c .before .before .before .before .before .before .pre .1 .range in omega (arith, c .before .before .loop .inv .2 .long, range .rise-high, range .fall-high)
+slice-read-max-u32 : tie.Need-slice-read-max-u32 Inv-loop μ-loop
+slice-read-max-u32 c = let range = c .before .before .before .before .before .before .pre .1 .range in omega (arith, c .before .before .loop .inv .2 .long, range .rise-high, range .fall-high)
 
 sub-level : tie.Need-sub-level Inv-loop μ-loop
 sub-level c = search needs
@@ -42,8 +45,8 @@ sub-level c = search needs
 level-requires : tie.Need-level-requires Inv-loop μ-loop
 level-requires c κs = let range = c .before .before .before .before .before .before .pre .1 .range in (range .peak-high, omega (arith, range .fall-high))
 
-greater-requires : tie.Need-greater-requires Inv-loop μ-loop
-greater-requires c κs = search needs
+max-u32-requires : tie.Need-max-u32-requires Inv-loop μ-loop
+max-u32-requires c κs = search needs
 
 add-row : tie.Need-add-row Inv-loop μ-loop
 add-row c = search needs
@@ -64,13 +67,15 @@ loop-again : tie.Need-loop-again Inv-loop μ-loop
 loop-again c =
     let start = c .before .before .before .before .before .before .before .before in
     let loop = c .before .before .before .before .loop in
-    let pulse = start .args .pulse in
+    let p = start .args .pulse in
     let level = fall-level (start .pre .1) (loop .k) (omega arith) (omega arith) (c .before .level .ensures) in
+    let since : loop .k ≡ p .rise + 1 + (loop .k - (p .rise + 1)) = omega arith in
     let range = start .pre .1 .range in (
       omega arith,
       omega arith,
-      written-next (loop .inv .2) (c .greater .result) (omega arith) (omega (arith, start .pre .0, range .rise-high, range .fall-high))
-          (to-pulse (pulse .peak) (pulse .rise) (pulse .fall) (start .args .start) (loop .k) (loop .inv .2) level (c .greater .ensures)) _ (omega arith),
+      raised-next (start .args .start + (p .rise + 1)) (λ j. pulse (p .peak) (p .rise) (p .fall) (p .rise + 1 + j)) (loop .k - (p .rise + 1)) _ _ _ (loop .inv .2)
+          (omega arith) (omega (arith, start .pre .0, range .rise-high, range .fall-high)) (level ∙ ap (pulse (p .peak) (p .rise) (p .fall)) since)
+          (c .max-u32 .ensures) _ (omega arith),
     )
 
 same-length : tie.Need-same-length Inv-loop μ-loop
@@ -79,9 +84,7 @@ same-length c = c .before .loop .inv .2 .long
 returns : tie.Need-returns Inv-loop μ-loop
 returns c =
     let loop = c .before .loop in
-    let pulse = c .before .before .before .before .before .args .pulse in
-    let e : loop .k ≡ pulse .rise + pulse .fall = omega arith in
-    rw e at (loop .inv .2)
+    rewritten-to _ _ _ _ _ _ (omega arith) (loop .inv .2)
 
 pub draw-fall-spec : {M : Type 1} → statement M
 draw-fall-spec =
@@ -92,12 +95,12 @@ draw-fall-spec =
     add-end
     add-k
     loop-holds
-    add-greater
-    mul-greater
-    slice-read-greater
+    add-max-u32
+    mul-max-u32
+    slice-read-max-u32
     sub-level
     level-requires
-    greater-requires
+    max-u32-requires
     add-row
     mul-row
     slice-write-row

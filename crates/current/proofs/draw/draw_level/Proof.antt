@@ -1,33 +1,33 @@
 -- `current::draw::draw_level` meets its contract.
 -- Assumes nothing.
 use Prim.Native.Nat.{_-_, _≤_}
-use mathlib.Core.Path.{_≡_}
+use mathlib.Core.Path.{refl}
 use native.Mathlib.Omega.{arith}
 use borrow.Author.Needs.{needs}
+use Rattle.laws.specs.Rewritten.{Rewritten}
+use Rattle.laws.proofs.Rewritten.{rewritten-none, rewritten-to}
 use Rattle.current.specs.Runs.{raisedTo}
-use Rattle.current.specs.Words.{WordsWritten}
-use Rattle.current.proofs.Rows.{to-level}
-use Rattle.current.proofs.Words.{written-none, written-next}
+use Rattle.current.proofs.Rows.{raised-next}
 use Rattle.current.proofs.draw.draw_level.Statement.{statement}
 use Rattle.current.proofs.draw.draw_level.Tie as tie
 
 abbrev Inv-loop : tie.InvT-loop
-Inv-loop row₀ from to height t₀ row t = (from ≤ t) × (t ≤ to) × WordsWritten from t (raisedTo row₀ height) row₀ row
+Inv-loop row₀ from to height t₀ row t = (from ≤ t) × (t ≤ to) × Rewritten (raisedTo row₀ from (λ k. height)) from (t - from) row₀ row
 
 abbrev μ-loop : tie.MeasureT-loop
 μ-loop row₀ from to height t₀ row t = to - t
 
 loop-holds : tie.Need-loop-holds Inv-loop μ-loop
-loop-holds c = (omega arith, omega arith, written-none _ _ _ _ (omega arith))
+loop-holds c = (omega arith, omega arith, rewritten-to _ _ 0 _ _ _ (omega arith) (rewritten-none _ _ _))
 
-mul-greater : tie.Need-mul-greater Inv-loop μ-loop
-mul-greater c = search needs
+mul-max-u32 : tie.Need-mul-max-u32 Inv-loop μ-loop
+mul-max-u32 c = search needs
 
-slice-read-greater : tie.Need-slice-read-greater Inv-loop μ-loop
-slice-read-greater c = omega (arith, c .before .before .loop .inv .2 .long)
+slice-read-max-u32 : tie.Need-slice-read-max-u32 Inv-loop μ-loop
+slice-read-max-u32 c = omega (arith, c .before .before .loop .inv .2 .long)
 
-greater-requires : tie.Need-greater-requires Inv-loop μ-loop
-greater-requires c κs = search needs
+max-u32-requires : tie.Need-max-u32-requires Inv-loop μ-loop
+max-u32-requires c κs = search needs
 
 mul-row : tie.Need-mul-row Inv-loop μ-loop
 mul-row c = search needs
@@ -47,7 +47,8 @@ loop-again c =
     let loop = c .before .before .before .loop in (
       omega arith,
       omega arith,
-      written-next (loop .inv .2) (c .greater .result) (omega arith) (omega (arith, start .pre .0)) (to-level (start .args .height) (loop .inv .2) (c .greater .ensures)) _ (omega arith),
+      raised-next (start .args .from) (λ k. start .args .height) (loop .t - start .args .from) _ _ _ (loop .inv .2) (omega arith)
+          (omega (arith, start .pre .0)) refl (c .max-u32 .ensures) _ (omega arith),
     )
 
 same-length : tie.Need-same-length Inv-loop μ-loop
@@ -56,8 +57,7 @@ same-length c = c .before .loop .inv .2 .long
 returns : tie.Need-returns Inv-loop μ-loop
 returns c =
     let loop = c .before .loop in
-    let e : loop .t ≡ c .before .before .before .args .to = omega arith in
-    rw e at (loop .inv .2)
+    rewritten-to _ _ _ _ _ _ (omega arith) (loop .inv .2)
 
 pub draw-level-spec : {M : Type 1} → statement M
 draw-level-spec =
@@ -66,9 +66,9 @@ draw-level-spec =
     Inv-loop
     μ-loop
     loop-holds
-    mul-greater
-    slice-read-greater
-    greater-requires
+    mul-max-u32
+    slice-read-max-u32
+    max-u32-requires
     mul-row
     slice-write-row
     add-t

@@ -1,40 +1,41 @@
 -- `current::draw::draw_rise` meets its contract.
 -- Assumes nothing.
-use Prim.Native.Nat.{_+_, _-_, _≤_}
-use mathlib.Core.Path.{_≡_}
+use Prim.Native.Nat.{_-_, _≤_}
+use mathlib.Core.Path.{_≡_, refl}
 use native.Mathlib.Omega.{arith}
 use borrow.Author.Needs.{needs}
-use Rattle.current.specs.Runs.{raisedToPulse}
-use Rattle.current.specs.Words.{WordsWritten}
+use Rattle.laws.specs.Rewritten.{Rewritten}
+use Rattle.laws.proofs.Rewritten.{rewritten-none}
+use Rattle.current.specs.Pulse.{pulse}
+use Rattle.current.specs.Runs.{raisedTo}
 use Rattle.current.proofs.Pulses.{rise-level}
-use Rattle.current.proofs.Rows.{to-pulse}
-use Rattle.current.proofs.Words.{written-none, written-next}
+use Rattle.current.proofs.Rows.{raised-next}
 use Rattle.current.proofs.draw.draw_rise.Statement.{statement}
 use Rattle.current.proofs.draw.draw_rise.Tie as tie
 
 abbrev Inv-loop : tie.InvT-loop
-Inv-loop row₀ pulse start k₀ row k = (k ≤ pulse .rise) × WordsWritten start (start + k) (raisedToPulse row₀ (pulse .peak) (pulse .rise) (pulse .fall) start) row₀ row
+Inv-loop row₀ p start k₀ row k = (k ≤ p .rise) × Rewritten (raisedTo row₀ start (pulse (p .peak) (p .rise) (p .fall))) start k row₀ row
 
 abbrev μ-loop : tie.MeasureT-loop
 μ-loop row₀ pulse start k₀ row k = pulse .rise - k
 
 loop-holds : tie.Need-loop-holds Inv-loop μ-loop
-loop-holds c = (omega arith, written-none _ _ _ _ (omega arith))
+loop-holds c = (omega arith, rewritten-none _ _ _)
 
-add-greater : tie.Need-add-greater Inv-loop μ-loop
-add-greater c = search needs
+add-max-u32 : tie.Need-add-max-u32 Inv-loop μ-loop
+add-max-u32 c = search needs
 
-mul-greater : tie.Need-mul-greater Inv-loop μ-loop
-mul-greater c = search needs
+mul-max-u32 : tie.Need-mul-max-u32 Inv-loop μ-loop
+mul-max-u32 c = search needs
 
-slice-read-greater : tie.Need-slice-read-greater Inv-loop μ-loop
-slice-read-greater c = omega (arith, c .before .before .before .loop .inv .1 .long, c .before .before .before .before .before .pre .1 .range .rise-high)
+slice-read-max-u32 : tie.Need-slice-read-max-u32 Inv-loop μ-loop
+slice-read-max-u32 c = omega (arith, c .before .before .before .loop .inv .1 .long, c .before .before .before .before .before .pre .1 .range .rise-high)
 
 level-requires : tie.Need-level-requires Inv-loop μ-loop
 level-requires c κs = let range = c .before .before .before .before .before .pre .1 .range in (range .peak-high, omega (arith, range .rise-high))
 
-greater-requires : tie.Need-greater-requires Inv-loop μ-loop
-greater-requires c κs = search needs
+max-u32-requires : tie.Need-max-u32-requires Inv-loop μ-loop
+max-u32-requires c κs = search needs
 
 add-row : tie.Need-add-row Inv-loop μ-loop
 add-row c = search needs
@@ -55,11 +56,11 @@ loop-again : tie.Need-loop-again Inv-loop μ-loop
 loop-again c =
     let start = c .before .before .before .before .before .before .before in
     let loop = c .before .before .before .before .before .loop in
-    let pulse = start .args .pulse in
+    let p = start .args .pulse in
     let level = rise-level (start .pre .1) (loop .k) (omega arith) (c .before .level .ensures) in (
       omega arith,
-      written-next (loop .inv .1) (c .greater .result) (omega arith) (omega (arith, start .pre .0, start .pre .1 .range .rise-high))
-          (to-pulse (pulse .peak) (pulse .rise) (pulse .fall) (start .args .start) (loop .k) (loop .inv .1) level (c .greater .ensures)) _ (omega arith),
+      raised-next (start .args .start) (pulse (p .peak) (p .rise) (p .fall)) (loop .k) _ _ _ (loop .inv .1) refl
+          (omega (arith, start .pre .0, start .pre .1 .range .rise-high)) level (c .max-u32 .ensures) _ refl,
     )
 
 same-length : tie.Need-same-length Inv-loop μ-loop
@@ -78,11 +79,11 @@ draw-rise-spec =
     Inv-loop
     μ-loop
     loop-holds
-    add-greater
-    mul-greater
-    slice-read-greater
+    add-max-u32
+    mul-max-u32
+    slice-read-max-u32
     level-requires
-    greater-requires
+    max-u32-requires
     add-row
     mul-row
     slice-write-row

@@ -1,24 +1,24 @@
 -- `current::drop::add_contact` meets its contract.
 -- Assumes nothing.
 use Prim.Native.Nat.{_-_, _≤_}
-use mathlib.Core.Path.{_≡_, refl}
+use mathlib.Core.Path.{_≡_}
 use native.Mathlib.Omega.{arith}
 use borrow.Author.Needs.{needs}
+use Rattle.laws.specs.Rewritten.{Rewritten}
+use Rattle.laws.proofs.Rewritten.{rewritten-none, rewritten-next}
 use Rattle.current.specs.Sums.{withContact}
-use Rattle.current.specs.Words.{WordsWritten}
-use Rattle.current.proofs.Drops.{product-fits, to-contact}
-use Rattle.current.proofs.Words.{written-none, written-next}
+use Rattle.current.proofs.Drops.{to-contact, contact-fits}
 use Rattle.current.proofs.drop.add_contact.Statement.{statement}
 use Rattle.current.proofs.drop.add_contact.Tie as tie
 
 abbrev Inv-loop : tie.InvT-loop
-Inv-loop sums₀ resistance sheet start busy t₀ sums t = (t ≤ busy) × WordsWritten 0 t (withContact sums₀ resistance sheet start) sums₀ sums
+Inv-loop sums₀ resistance sheet start stop t₀ sums t = (t ≤ stop) × Rewritten (withContact sums₀ resistance sheet start) 0 t sums₀ sums
 
 abbrev μ-loop : tie.MeasureT-loop
-μ-loop sums₀ resistance sheet start busy t₀ sums t = busy - t
+μ-loop sums₀ resistance sheet start stop t₀ sums t = stop - t
 
 loop-holds : tie.Need-loop-holds Inv-loop μ-loop
-loop-holds c = (omega arith, written-none 0 0 _ _ (omega arith))
+loop-holds c = (omega arith, rewritten-none _ 0 _)
 
 mul-sums : tie.Need-mul-sums Inv-loop μ-loop
 mul-sums c = search needs
@@ -26,26 +26,27 @@ mul-sums c = search needs
 slice-read-sums : tie.Need-slice-read-sums Inv-loop μ-loop
 slice-read-sums c = omega (arith, c .before .before .loop .inv .1 .long, c .before .before .before .before .before .pre .long, c .before .before .before .before .before .pre .in-row)
 
-add-wide-current : tie.Need-add-wide-current Inv-loop μ-loop
-add-wide-current c = search needs
+add-u64-from-u32 : tie.Need-add-u64-from-u32 Inv-loop μ-loop
+add-u64-from-u32 c = search needs
 
-mul-wide-current : tie.Need-mul-wide-current Inv-loop μ-loop
-mul-wide-current c = search needs
+mul-u64-from-u32 : tie.Need-mul-u64-from-u32 Inv-loop μ-loop
+mul-u64-from-u32 c = search needs
 
-shared-slice-read-wide-current : tie.Need-shared-slice-read-wide-current Inv-loop μ-loop
-shared-slice-read-wide-current c = search needs
+shared-slice-read-u64-from-u32 : tie.Need-shared-slice-read-u64-from-u32 Inv-loop μ-loop
+shared-slice-read-u64-from-u32 c = search needs
 
-wide-current-requires : tie.Need-wide-current-requires Inv-loop μ-loop
-wide-current-requires c κs = search needs
+u64-from-u32-requires : tie.Need-u64-from-u32-requires Inv-loop μ-loop
+u64-from-u32-requires c κs = search needs
 
 mul-sums-2 : tie.Need-mul-sums-2 Inv-loop μ-loop
-mul-sums-2 c = omega (arith, product-fits (c .before .before .before .before .before .before .before .pre .resistance-high) (c .wide-current .ensures .1))
+mul-sums-2 c =
+    let loop = c .before .before .before .before .loop in
+    omega (arith, contact-fits (c .before .before .before .before .before .before .before .pre) (omega arith) (loop .inv .1) (c .u64-from-u32 .ensures .0))
 
 add-sums : tie.Need-add-sums Inv-loop μ-loop
 add-sums c =
-    let start = c .before .before .before .before .before .before .before in
     let loop = c .before .before .before .before .loop in
-    omega (arith, product-fits (start .pre .resistance-high) (c .wide-current .ensures .1), loop .inv .1 .above (loop .t) (omega arith), start .pre .small (loop .t) (omega arith))
+    omega (arith, contact-fits (c .before .before .before .before .before .before .before .pre) (omega arith) (loop .inv .1) (c .u64-from-u32 .ensures .0))
 
 mul-sums-3 : tie.Need-mul-sums-3 Inv-loop μ-loop
 mul-sums-3 c = search needs
@@ -64,8 +65,8 @@ loop-again c =
     let start = c .before .before .before .before .before .before .before in
     let loop = c .before .before .before .before .loop in (
       omega arith,
-      written-next (loop .inv .1) _ (omega arith) (omega (arith, start .pre .long, start .pre .in-row))
-          (to-contact (start .args .resistance) (start .args .sheet .now) (start .args .start) (loop .inv .1) (c .wide-current .ensures .0)) _ refl,
+      rewritten-next _ 0 (loop .t) _ _ _ _ (omega arith) (omega (arith, start .pre .long, start .pre .in-row))
+          (to-contact (start .args .resistance) (start .args .sheet .now) (start .args .start) (loop .inv .1) (c .u64-from-u32 .ensures .0)) (loop .inv .1),
     )
 
 same-length : tie.Need-same-length Inv-loop μ-loop
@@ -74,7 +75,7 @@ same-length c = c .before .loop .inv .1 .long
 returns : tie.Need-returns Inv-loop μ-loop
 returns c =
     let loop = c .before .loop in
-    let e : loop .t ≡ c .before .before .before .before .args .busy = omega arith in
+    let e : loop .t ≡ c .before .before .before .before .args .stop = omega arith in
     rw e at (loop .inv .1)
 
 pub add-contact-spec : {M : Type 1} → statement M
@@ -86,10 +87,10 @@ add-contact-spec =
     loop-holds
     mul-sums
     slice-read-sums
-    add-wide-current
-    mul-wide-current
-    shared-slice-read-wide-current
-    wide-current-requires
+    add-u64-from-u32
+    mul-u64-from-u32
+    shared-slice-read-u64-from-u32
+    u64-from-u32-requires
     mul-sums-2
     add-sums
     mul-sums-3

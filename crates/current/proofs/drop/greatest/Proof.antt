@@ -20,14 +20,14 @@ loop-holds : tie.Need-loop-holds Inv-loop μ-loop
 unfolding maxBelow
 loop-holds c = (omega arith, refl)
 
-mul-greater : tie.Need-mul-greater Inv-loop μ-loop
-mul-greater c = search needs
+mul-max-u64 : tie.Need-mul-max-u64 Inv-loop μ-loop
+mul-max-u64 c = search needs
 
-shared-slice-read-greater : tie.Need-shared-slice-read-greater Inv-loop μ-loop
-shared-slice-read-greater c = search needs
+shared-slice-read-max-u64 : tie.Need-shared-slice-read-max-u64 Inv-loop μ-loop
+shared-slice-read-max-u64 c = search needs
 
-greater-requires : tie.Need-greater-requires Inv-loop μ-loop
-greater-requires c κs = search needs
+max-u64-requires : tie.Need-max-u64-requires Inv-loop μ-loop
+max-u64-requires c κs = search needs
 
 add-i : tie.Need-add-i Inv-loop μ-loop
 add-i c = search needs
@@ -40,7 +40,7 @@ unfolding wordOf
 loop-again c =
     let words = c .before .before .before .before .before .args .words .now in
     let loop = c .before .before .before .loop in
-    (omega arith, c .greater .ensures ∙ rw (loop .inv .1) (sym (max-next (loop .i) (wordOf words))))
+    (omega arith, c .max-u64 .ensures ∙ rw (loop .inv .1) (sym (max-next (loop .i) (wordOf words))))
 
 returns : tie.Need-returns Inv-loop μ-loop
 returns c =
@@ -55,9 +55,9 @@ greatest-spec =
     Inv-loop
     μ-loop
     loop-holds
-    mul-greater
-    shared-slice-read-greater
-    greater-requires
+    mul-max-u64
+    shared-slice-read-max-u64
+    max-u64-requires
     add-i
     loop-less
     loop-again

@@ -10,21 +10,19 @@ use Rattle.current.proofs.drop.greatest_drop.Statement.{statement}
 use Rattle.current.proofs.drop.greatest_drop.Tie as tie
 
 abbrev Inv-loop : tie.InvT-loop
-Inv-loop table sheet busy nodes most₀ node₀ most node = (node ≤ nodes) × (most ≡ maxBelow node (nodeDrop table sheet))
+Inv-loop table sheet stop nodes most₀ node₀ most node = (node ≤ nodes) × (most ≡ maxBelow node (nodeDrop table sheet))
 
 abbrev μ-loop : tie.MeasureT-loop
-μ-loop table sheet busy nodes most₀ node₀ most node = nodes - node
+μ-loop table sheet stop nodes most₀ node₀ most node = nodes - node
 
 loop-holds : tie.Need-loop-holds Inv-loop μ-loop
 loop-holds c = let start = c .before .before in (omega arith, nodes-none (start .args .table .now) (start .args .sheet .now))
 
 node-drop-requires : tie.Need-node-drop-requires Inv-loop μ-loop
-node-drop-requires c κs =
-    let start = c .before .before .before .before in
-    (omega arith, start .pre .long, start .pre .ticks)
+node-drop-requires c κs = (omega arith, c .before .before .before .before .pre)
 
-greater-requires : tie.Need-greater-requires Inv-loop μ-loop
-greater-requires c κs = search needs
+max-u64-requires : tie.Need-max-u64-requires Inv-loop μ-loop
+max-u64-requires c κs = search needs
 
 add-node : tie.Need-add-node Inv-loop μ-loop
 add-node c = search needs
@@ -39,7 +37,7 @@ loop-again c =
     let sheet = start .args .sheet .now in
     let loop = c .before .before .before .loop in (
       omega arith,
-      nodes-next table sheet (loop .node) (loop .inv .1) (c .before .node-drop .ensures ∙ node-quiet table (loop .node) (start .pre)) (c .greater .ensures),
+      nodes-next table sheet (loop .node) (loop .inv .1) (c .before .node-drop .ensures ∙ node-quiet table (loop .node) (start .pre)) (c .max-u64 .ensures),
     )
 
 returns : tie.Need-returns Inv-loop μ-loop
@@ -56,7 +54,7 @@ greatest-drop-spec =
     μ-loop
     loop-holds
     node-drop-requires
-    greater-requires
+    max-u64-requires
     add-node
     loop-less
     loop-again

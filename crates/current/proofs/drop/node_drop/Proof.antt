@@ -10,28 +10,28 @@ use Rattle.current.proofs.drop.node_drop.Statement.{statement}
 use Rattle.current.proofs.drop.node_drop.Tie as tie
 
 abbrev Inv-loop : tie.InvT-loop
-Inv-loop table node sheet busy sums₀ contact₀ sums contact = (contact ≤ 16) × Summed table sheet node busy contact sums
+Inv-loop table node sheet stop sums₀ contact₀ sums contact = (contact ≤ 16) × Summed table sheet node stop contact sums
 
 abbrev μ-loop : tie.MeasureT-loop
-μ-loop table node sheet busy sums₀ contact₀ sums contact = 16 - contact
+μ-loop table node sheet stop sums₀ contact₀ sums contact = 16 - contact
 
 loop-holds : tie.Need-loop-holds Inv-loop μ-loop
 loop-holds c = (omega arith, summed-none refl)
 
-mul-wide-resistance : tie.Need-mul-wide-resistance Inv-loop μ-loop
-mul-wide-resistance c = search needs
+mul-u64-from-u16 : tie.Need-mul-u64-from-u16 Inv-loop μ-loop
+mul-u64-from-u16 c = search needs
 
-add-wide-resistance : tie.Need-add-wide-resistance Inv-loop μ-loop
-add-wide-resistance c = search needs
+add-u64-from-u16 : tie.Need-add-u64-from-u16 Inv-loop μ-loop
+add-u64-from-u16 c = search needs
 
-mul-wide-resistance-2 : tie.Need-mul-wide-resistance-2 Inv-loop μ-loop
-mul-wide-resistance-2 c = search needs
+mul-u64-from-u16-2 : tie.Need-mul-u64-from-u16-2 Inv-loop μ-loop
+mul-u64-from-u16-2 c = search needs
 
-shared-slice-read-wide-resistance : tie.Need-shared-slice-read-wide-resistance Inv-loop μ-loop
-shared-slice-read-wide-resistance c = search needs
+shared-slice-read-u64-from-u16 : tie.Need-shared-slice-read-u64-from-u16 Inv-loop μ-loop
+shared-slice-read-u64-from-u16 c = search needs
 
-wide-resistance-requires : tie.Need-wide-resistance-requires Inv-loop μ-loop
-wide-resistance-requires c κs = search needs
+u64-from-u16-requires : tie.Need-u64-from-u16-requires Inv-loop μ-loop
+u64-from-u16-requires c κs = search needs
 
 slice-aggregate-add-contact : tie.Need-slice-aggregate-add-contact Inv-loop μ-loop
 slice-aggregate-add-contact c = search needs
@@ -45,11 +45,11 @@ add-contact-requires c κs =
     let loop = c .before .before .before .before .loop in
     record {
       long = loop .inv .1 .long;
-      sheet-long = start .pre .1;
-      in-row = start .pre .2;
+      sheet-long = start .pre .1 .long;
+      in-row = start .pre .1 .ticks;
       place = omega arith;
-      resistance-high = c .before .wide-resistance .ensures .1;
-      small = summed-small (loop .inv .1) (λ i. omega (arith, c .before .before .before .before .before .before .shared-slice-known .given i)) (λ i. omega (arith, c .before .before .before .before .before .shared-slice-known2 .given i)) (omega arith);
+      small = summed-small (loop .inv .1) _ (c .before .u64-from-u16 .ensures .0) (omega arith) (omega arith)
+          (λ i. omega (arith, c .before .before .before .before .before .before .shared-slice-known .given i)) (start .pre .1);
     }
 
 add-contact : tie.Need-add-contact Inv-loop μ-loop
@@ -61,7 +61,7 @@ loop-less c = search needs
 loop-again : tie.Need-loop-again Inv-loop μ-loop
 loop-again c =
     let loop = c .before .before .before .before .before .before .loop in
-    (omega arith, summed-next (loop .inv .1) _ (c .before .before .before .wide-resistance .ensures .0) (c .before .add-contact .ensures) (omega arith))
+    (omega arith, summed-next (loop .inv .1) _ (c .before .before .before .u64-from-u16 .ensures .0) (omega arith) (c .before .add-contact .ensures))
 
 slice-aggregate-greatest : tie.Need-slice-aggregate-greatest Inv-loop μ-loop
 slice-aggregate-greatest c = search needs
@@ -81,11 +81,11 @@ node-drop-spec =
     Inv-loop
     μ-loop
     loop-holds
-    mul-wide-resistance
-    add-wide-resistance
-    mul-wide-resistance-2
-    shared-slice-read-wide-resistance
-    wide-resistance-requires
+    mul-u64-from-u16
+    add-u64-from-u16
+    mul-u64-from-u16-2
+    shared-slice-read-u64-from-u16
+    u64-from-u16-requires
     slice-aggregate-add-contact
     mul-add-contact
     add-contact-requires

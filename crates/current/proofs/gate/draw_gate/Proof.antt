@@ -7,9 +7,6 @@ use Rattle.current.proofs.Gates.{edges-within, nothing-drawn, gate-draw
 use Rattle.current.proofs.gate.draw_gate.Statement.{statement}
 use Rattle.current.proofs.gate.draw_gate.Tie as tie
 
-gate-requires : tie.Need-gate-requires
-gate-requires c κs = search needs
-
 add-seen : tie.Need-add-seen
 add-seen c = search needs
 
@@ -18,17 +15,17 @@ seen-requires c κs = search needs
 
 returns : tie.Need-returns
 returns c =
-    let start = c .before .before .before .before .before .before in
-    nothing-drawn (start .pre) (edges-within (start .pre) (c .before .before .gate .ensures .delay-is) (c .before .seen .ensures)) (c .if1 .taken)
+    let start = c .before .before .before .before in
+    nothing-drawn (start .pre) (edges-within (start .pre) (c .before .seen .ensures)) (c .if1 .taken)
 
 slice-aggregate-draw-row : tie.Need-slice-aggregate-draw-row
 slice-aggregate-draw-row c = search needs
 
 draw-row-requires : tie.Need-draw-row-requires
 draw-row-requires c κs =
-    let start = c .before .before .before .before .before .before .before in
-    let edges = edges-within (start .pre) (c .before .before .before .gate .ensures .delay-is) (c .before .before .seen .ensures) in
-    (record { has-record = start .pre .has-record; gate = start .pre .gate; edges = edges }, refl)
+    let start = c .before .before .before .before .before in
+    let edges = edges-within (start .pre) (c .before .before .seen .ensures) in
+    (record { ranges = start .pre .ranges; fits = start .pre .fits; edges = edges }, refl)
 
 quiet-from-requires : tie.Need-quiet-from-requires
 quiet-from-requires c κs = search needs
@@ -41,14 +38,14 @@ slice-aggregate-add-row c = search needs
 
 add-row-requires : tie.Need-add-row-requires
 add-row-requires c κs =
-    let start = c .before .before .before .before .before .before .before .before .before .before .before .before .before in
+    let start = c .before .before .before .before .before .before .before .before .before .before .before in
     let row = c .before .before .before .before .before .draw-row .ensures in
     let quiet = c .before .before .before .quiet-from .ensures in
     record {
       long = start .pre .long;
       row-long = row .long;
       short = quiet .0;
-      place = omega (arith, c .before .before .before .before .before .before .before .before .before .gate .ensures .contact-is, start .pre .gate .contact-high, quiet .0);
+      place = omega (arith, start .pre .ranges .contact-high, quiet .0);
       small = row .small;
       room = start .pre .room;
     }
@@ -58,16 +55,14 @@ same-length c = search needs
 
 returns-2 : tie.Need-returns-2
 returns-2 c =
-    let start = c .before .before .before .before .before .before .before .before .before .before .before .before .before .before .before .before in
-    let read = c .before .before .before .before .before .before .before .before .before .before .before .before .gate .ensures in
+    let start = c .before .before .before .before .before .before .before .before .before .before .before .before .before .before in
     let quiet = c .before .before .before .before .before .before .quiet-from .ensures in
-    gate-drawn (start .pre) (c .before .before .before .before .before .before .before .before .draw-row .ensures) (quiet .0) (omega (arith, quiet .1, read .rise-is, read .fall-is, read .delay-is)) (c .before .before .add-row .ensures) (omega (arith, read .contact-is))
+    gate-drawn (start .pre) (c .before .before .before .before .before .before .before .before .draw-row .ensures) (quiet .0) (quiet .1) (c .before .before .add-row .ensures)
 
 pub draw-gate-spec : {M : Type 1} → statement M
 draw-gate-spec =
     tie.close
     (tie.spec
-    gate-requires
     add-seen
     seen-requires
     returns

@@ -6,12 +6,9 @@ use native.Mathlib.Omega.{arith}
 use lib.ListN.{length}
 use borrow.Author.Needs.{needs}
 use Rattle.current.proofs.Edges.{edges-turned}
-use Rattle.current.proofs.Gates.{in-range, edges-after, row-drawn}
+use Rattle.current.proofs.Gates.{in-range, row-drawn}
 use Rattle.current.proofs.gate.draw_row.Statement.{statement}
 use Rattle.current.proofs.gate.draw_row.Tie as tie
-
-gate-requires : tie.Need-gate-requires
-gate-requires c κs = search needs
 
 factor-requires : tie.Need-factor-requires
 factor-requires c κs = search needs
@@ -27,15 +24,17 @@ cast-peak-hl c = search needs
 
 draw-edges-requires : tie.Need-draw-edges-requires
 draw-edges-requires c κs =
-    let start = c .before .before .before .before .before .before .before .before .before .before in
-    let codes = start .pre .0 in
-    let read = c .before .before .before .before .before .before .gate .ensures in
-    let range = in-range (start .args .file .now) (start .args .net .0) (codes .gate) _ _ _ (read .peak-lh-high) (read .rise-is) (read .fall-is) in (
+    let start = c .before .before .before .before .before .before .before .before in
+    let given = start .pre .0 in (
       ap length (start .pre .1),
-      record { range = range; rising-by = c .before .before .before .before .before .factor .ensures; falling-by = c .before .before .before .before .factor2 .ensures },
+      record {
+        range = in-range given (given .fits .peak-lh-high);
+        rising-by = c .before .before .before .before .before .factor .ensures;
+        falling-by = c .before .before .before .before .factor2 .ensures;
+      },
       omega arith,
       inl refl,
-      edges-after codes _ (read .delay-is),
+      given .edges,
     )
 
 same-length : tie.Need-same-length
@@ -43,25 +42,22 @@ same-length c = search needs
 
 returns : tie.Need-returns
 returns c =
-    let start = c .before .before .before .before .before .before .before .before .before .before .before .before .before in
-    let file = start .args .file .now in
-    let net = start .args .net .0 in
-    let gate = start .pre .0 .gate in
-    let read = c .before .before .before .before .before .before .before .before .before .gate .ensures in
-    row-drawn file net (start .pre .0) (in-range file net gate _ _ _ (read .peak-lh-high) (read .rise-is) (read .fall-is)) (in-range file net gate _ _ _ (read .peak-hl-high) (read .rise-is) (read .fall-is))
-    (read .peak-lh-is) (read .peak-hl-is) (read .rise-is) (read .fall-is) (read .delay-is) (start .pre .1) (c .before .before .draw-edges .ensures)
+    let start = c .before .before .before .before .before .before .before .before .before .before .before in
+    row-drawn (start .pre .0) (start .pre .1) (c .before .before .draw-edges .ensures)
 
 draw-edges-requires-2 : tie.Need-draw-edges-requires-2
 draw-edges-requires-2 c κs =
-    let start = c .before .before .before .before .before .before .before .before .before .before in
-    let codes = start .pre .0 in
-    let read = c .before .before .before .before .before .before .gate .ensures in
-    let range = in-range (start .args .file .now) (start .args .net .0) (codes .gate) _ _ _ (read .peak-hl-high) (read .rise-is) (read .fall-is) in (
+    let start = c .before .before .before .before .before .before .before .before in
+    let given = start .pre .0 in (
       ap length (start .pre .1),
-      record { range = range; rising-by = c .before .before .before .before .before .factor .ensures; falling-by = c .before .before .before .before .factor2 .ensures },
+      record {
+        range = in-range given (given .fits .peak-hl-high);
+        rising-by = c .before .before .before .before .before .factor .ensures;
+        falling-by = c .before .before .before .before .factor2 .ensures;
+      },
       omega arith,
       inr refl,
-      edges-after codes _ (read .delay-is),
+      given .edges,
     )
 
 same-length-2 : tie.Need-same-length-2
@@ -69,19 +65,13 @@ same-length-2 c = search needs
 
 returns-2 : tie.Need-returns-2
 returns-2 c =
-    let start = c .before .before .before .before .before .before .before .before .before .before .before .before .before in
-    let file = start .args .file .now in
-    let net = start .args .net .0 in
-    let gate = start .pre .0 .gate in
-    let read = c .before .before .before .before .before .before .before .before .before .gate .ensures in
-    row-drawn file net (start .pre .0) (in-range file net gate _ _ _ (read .peak-lh-high) (read .rise-is) (read .fall-is)) (in-range file net gate _ _ _ (read .peak-hl-high) (read .rise-is) (read .fall-is))
-    (read .peak-lh-is) (read .peak-hl-is) (read .rise-is) (read .fall-is) (read .delay-is) (start .pre .1) (edges-turned (c .before .before .draw-edges2 .ensures))
+    let start = c .before .before .before .before .before .before .before .before .before .before .before in
+    row-drawn (start .pre .0) (start .pre .1) (edges-turned (c .before .before .draw-edges2 .ensures))
 
 pub draw-row-spec : {M : Type 1} → statement M
 draw-row-spec =
     tie.close
     (tie.spec
-    gate-requires
     factor-requires
     factor-requires-2
     cast-peak-lh

@@ -1,23 +1,25 @@
 -- `current::sheet::add_row` meets its contract.
 -- Assumes nothing.
 use Prim.Native.Nat.{_+_, _-_, _≤_}
-use mathlib.Core.Path.{_≡_}
+use mathlib.Core.Logic.{inr}
+use mathlib.Core.Path.{_≡_, refl}
 use native.Mathlib.Omega.{arith}
 use borrow.Author.Needs.{needs}
-use Rattle.current.specs.Words.{WordsWritten, withRow}
-use Rattle.current.proofs.Rows.{to-sum}
-use Rattle.current.proofs.Words.{written-none, written-next}
+use Rattle.laws.specs.Rewritten.{Rewritten}
+use Rattle.laws.proofs.Rewritten.{rewritten-none, rewritten-next}
+use Rattle.current.specs.Words.{withRow}
+use Rattle.current.proofs.Words.{to-sum}
 use Rattle.current.proofs.sheet.add_row.Statement.{statement}
 use Rattle.current.proofs.sheet.add_row.Tie as tie
 
 abbrev Inv-loop : tie.InvT-loop
-Inv-loop words₀ start row n t₀ words t = (t ≤ n) × WordsWritten start (start + t) (withRow words₀ start row) words₀ words
+Inv-loop words₀ start row n t₀ words t = (t ≤ n) × Rewritten (withRow words₀ start row) start t words₀ words
 
 abbrev μ-loop : tie.MeasureT-loop
 μ-loop words₀ start row n t₀ words t = n - t
 
 loop-holds : tie.Need-loop-holds Inv-loop μ-loop
-loop-holds c = (omega arith, written-none _ _ _ _ (omega arith))
+loop-holds c = (omega arith, rewritten-none _ _ _)
 
 add-words : tie.Need-add-words Inv-loop μ-loop
 add-words c = search needs
@@ -39,7 +41,7 @@ add-words-2 c =
     let start = c .before .before .before .before in
     let loop = c .before .before .before .loop in
     let place = start .args .start + loop .t in
-    omega (arith, loop .inv .1 .above place (omega arith), start .pre .room place, start .pre .small (loop .t))
+    omega (arith, loop .inv .1 .rest place (inr (omega arith)), start .pre .room place, start .pre .small (loop .t))
 
 add-words-3 : tie.Need-add-words-3 Inv-loop μ-loop
 add-words-3 c = search needs
@@ -61,7 +63,8 @@ loop-again c =
     let start = c .before .before .before .before in
     let loop = c .before .before .before .loop in (
       omega arith,
-      written-next (loop .inv .1) _ (omega arith) (omega (arith, start .pre .long, start .pre .place)) (to-sum (start .args .start) (start .args .row .now) (loop .t) (loop .inv .1)) _ (omega arith),
+      rewritten-next _ (start .args .start) (loop .t) _ _ _ _ refl (omega (arith, start .pre .long, start .pre .place))
+          (to-sum (start .args .start) (start .args .row .now) (loop .t) (loop .inv .1)) (loop .inv .1),
     )
 
 same-length : tie.Need-same-length Inv-loop μ-loop

@@ -4,19 +4,20 @@ use Prim.Native.Nat.{_-_, _≤_}
 use mathlib.Core.Path.{_≡_, refl}
 use native.Mathlib.Omega.{arith}
 use borrow.Author.Needs.{needs}
-use Rattle.current.specs.Words.{WordsWritten, noCurrent}
-use Rattle.current.proofs.Words.{written-none, written-next, cleared}
+use Rattle.laws.specs.Rewritten.{Rewritten}
+use Rattle.laws.proofs.Rewritten.{rewritten-none, rewritten-next}
+use Rattle.current.proofs.Words.{cleared}
 use Rattle.current.proofs.sheet.clear.Statement.{statement}
 use Rattle.current.proofs.sheet.clear.Tie as tie
 
 abbrev Inv-loop : tie.InvT-loop
-Inv-loop sheet₀ i₀ sheet i = (i ≤ 8192) × WordsWritten 0 i noCurrent sheet₀ sheet
+Inv-loop sheet₀ i₀ sheet i = (i ≤ 8192) × Rewritten (λ k. 0) 0 i sheet₀ sheet
 
 abbrev μ-loop : tie.MeasureT-loop
 μ-loop sheet₀ i₀ sheet i = 8192 - i
 
 loop-holds : tie.Need-loop-holds Inv-loop μ-loop
-loop-holds c = (omega arith, written-none 0 0 noCurrent _ (omega arith))
+loop-holds c = (omega arith, rewritten-none (λ k. 0) 0 _)
 
 mul-sheet : tie.Need-mul-sheet Inv-loop μ-loop
 mul-sheet c = search needs
@@ -31,7 +32,10 @@ loop-less : tie.Need-loop-less Inv-loop μ-loop
 loop-less c = search needs
 
 loop-again : tie.Need-loop-again Inv-loop μ-loop
-loop-again c = (omega arith, written-next (c .before .loop .inv .1) 0 (omega arith) (omega (arith, c .before .before .pre)) refl _ refl)
+loop-again c =
+    let start = c .before .before in
+    let loop = c .before .loop in
+    (omega arith, rewritten-next (λ k. 0) 0 (loop .i) _ _ _ _ (omega arith) (omega (arith, start .pre)) refl (loop .inv .1))
 
 same-length : tie.Need-same-length Inv-loop μ-loop
 same-length c = c .before .loop .inv .1 .long

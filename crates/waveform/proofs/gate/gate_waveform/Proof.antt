@@ -1,25 +1,21 @@
 -- `waveform::gate::gate_waveform` meets its contract.
 -- Assumes nothing.
 use Prim.Native.Nat.{ℕ, _+_}
-use mathlib.Core.Path.{refl, sym, subst}
+use mathlib.Core.Path.{ap, sym, subst}
 use native.Mathlib.Omega.{arith}
 use lib.ListN.{length-replicate}
 use borrow.Author.Needs.{needs}
-use Rattle.block.specs.Record.{delay}
 use Rattle.fill.specs.Codes.{SettledFrom}
-use Rattle.waveform.specs.Pins.{NetSampled, Delayed}
+use Rattle.waveform.specs.Pins.{GateSampled, Delayed}
 use Rattle.waveform.specs.Rows.{pinsLastIn}
-use Rattle.waveform.proofs.Made.{pins-soon, filled-same-after, gate-made}
-use Rattle.waveform.proofs.Pins.{net-sampled, delayed-codes, delayed-settled}
-use Rattle.waveform.proofs.Rows.{pin-rows, latest-is}
+use Rattle.waveform.proofs.Made.{filled-same-after, gate-made}
+use Rattle.waveform.proofs.Pins.{delayed-codes, delayed-settled}
+use Rattle.waveform.proofs.Rows.{pin-rows, pins-soon}
 use Rattle.waveform.proofs.gate.gate_waveform.Statement.{statement}
 use Rattle.waveform.proofs.gate.gate_waveform.Tie as tie
 
 latest-pin-requires : tie.Need-latest-pin-requires
-latest-pin-requires c κs = let s = c .before .before .before .before .before .before in pin-rows (s .args .file .now) (s .args .net .0) _ (s .args .work .now) (c .before .gate .ensures) (s .pre .0 .gate) (s .pre .0 .room)
-
-gate-requires : tie.Need-gate-requires
-gate-requires c κs = search needs
+latest-pin-requires c κs = pin-rows (c .before .before .before .before .pre .0)
 
 add-arrival : tie.Need-add-arrival
 add-arrival c = search needs
@@ -35,46 +31,58 @@ slice-aggregate-gate-samples c = search needs
 
 gate-samples-requires : tie.Need-gate-samples-requires
 gate-samples-requires c κs =
-    let s = c .before .before .before .before .before .before .before .before .before .before in let latest = latest-is (s .args .file .now) (s .args .net .0) _ (s .args .work .now) (c .before .before .before .before .before .gate .ensures) (s .pre .0 .gate) (c .before .before .before .latest-pin .ensures) in let d = c .before .before .before .before .before .gate .ensures .delay-is in let soon = pins-soon (s .args .file .now) (s .args .net .0) (s .args .work .now) (s .pre .0) (s .args .hops) in
-    let read = c .before .before .before .before .before .gate .ensures in
-    (pin-rows (s .args .file .now) (s .args .net .0) _ (s .args .work .now) read (s .pre .0 .gate) (s .pre .0 .room), omega (arith, read .used-is, s .pre .0 .gate .pins-low), omega arith, omega (arith, s .pre .0 .in-time, s .pre .0 .gate .delay-low, latest), length-replicate {A = ℕ} 257 0, s .pre .3)
+    let s = c .before .before .before .before .before .before .before .before in
+    let ready = s .pre .0 in
+    let latest = c .before .before .before .latest-pin .ensures in
+    let soon = pins-soon ready in
+    (pin-rows ready, ready .checked .pins-low, omega arith, omega (arith, ready .in-time, ready .checked .ranges .delay-low), length-replicate {A = ℕ} 257 0, s .pre .3)
 
 slice-aggregate-delay : tie.Need-slice-aggregate-delay
 slice-aggregate-delay c = search needs
 
 delay-requires : tie.Need-delay-requires
 delay-requires c κs =
-    let s = c .before .before .before .before .before .before .before .before .before .before .before .before .before .before in let latest = latest-is (s .args .file .now) (s .args .net .0) _ (s .args .work .now) (c .before .before .before .before .before .before .before .before .before .gate .ensures) (s .pre .0 .gate) (c .before .before .before .before .before .before .before .latest-pin .ensures) in let d = c .before .before .before .before .before .before .before .before .before .gate .ensures .delay-is in let soon = pins-soon (s .args .file .now) (s .args .net .0) (s .args .work .now) (s .pre .0) (s .args .hops) in
-    (s .pre .1, c .before .before .before .gate-samples .ensures .long, omega (arith, d, s .pre .0 .gate .delay-low), omega (arith, s .pre .0 .in-time, latest, d))
+    let s = c .before .before .before .before .before .before .before .before .before .before .before .before in
+    let ready = s .pre .0 in
+    let latest = c .before .before .before .before .before .before .before .latest-pin .ensures in
+    let soon = pins-soon ready in
+    (s .pre .1, c .before .before .before .gate-samples .ensures 0 .long, ready .checked .ranges .delay-low, omega (arith, ready .in-time))
 
 settled-from-requires : tie.Need-settled-from-requires
 settled-from-requires c κs =
-    let s = c .before .before .before .before .before .before .before .before .before .before .before .before .before .before .before .before .before .before in let latest = latest-is (s .args .file .now) (s .args .net .0) _ (s .args .work .now) (c .before .before .before .before .before .before .before .before .before .before .before .before .before .gate .ensures) (s .pre .0 .gate) (c .before .before .before .before .before .before .before .before .before .before .before .latest-pin .ensures) in let d = c .before .before .before .before .before .before .before .before .before .before .before .before .before .gate .ensures .delay-is in let soon = pins-soon (s .args .file .now) (s .args .net .0) (s .args .work .now) (s .pre .0) (s .args .hops) in
-    omega (arith, s .pre .0 .in-time, latest, d)
+    let s = c .before .before .before .before .before .before .before .before .before .before .before .before .before .before .before .before in
+    let ready = s .pre .0 in
+    let latest = c .before .before .before .before .before .before .before .before .before .before .before .latest-pin .ensures in
+    let soon = pins-soon ready in
+    omega (arith, ready .in-time)
 
 fill-requires : tie.Need-fill-requires
 fill-requires c κs =
-    let s = c .before .before .before .before .before .before .before .before .before .before .before .before .before .before .before .before .before .before .before in
+    let s = c .before .before .before .before .before .before .before .before .before .before .before .before .before .before .before .before .before in
     let last = c .before .before .before .before .before .before .before .before .before .before .before .before .latest-pin .result .last in
-    let d = c .before .before .before .before .before .before .before .before .before .before .before .before .before .before .gate .result .delay in
+    let d = s .args .gate .delay in
     let samples = c .before .before .before .before .before .before .before .before .gate-samples .last .1 .1 .1 .1 .0 in
     let codes = c .before .before .before .before .delay .last .0 in
     let late = c .before .before .before .before .delay .ensures in (
-      delayed-codes d last _ samples codes (c .before .before .before .before .before .before .before .before .gate-samples .ensures) late,
+      delayed-codes d last _ samples codes (c .before .before .before .before .before .before .before .before .gate-samples .ensures 0) late,
       s .pre .2,
       subst (λ t. SettledFrom t codes) (sym (c .settled-from .ensures)) (delayed-settled d last samples codes late),
     )
 
 last-change-requires : tie.Need-last-change-requires
 last-change-requires c κs =
-    let s = c .before .before .before .before .before .before .before .before .before .before .before .before .before .before .before .before .before .before .before .before .before .before .before in let latest = latest-is (s .args .file .now) (s .args .net .0) _ (s .args .work .now) (c .before .before .before .before .before .before .before .before .before .before .before .before .before .before .before .before .before .before .gate .ensures) (s .pre .0 .gate) (c .before .before .before .before .before .before .before .before .before .before .before .before .before .before .before .before .latest-pin .ensures) in let d = c .before .before .before .before .before .before .before .before .before .before .before .before .before .before .before .before .before .before .gate .ensures .delay-is in let soon = pins-soon (s .args .file .now) (s .args .net .0) (s .args .work .now) (s .pre .0) (s .args .hops) in
+    let s = c .before .before .before .before .before .before .before .before .before .before .before .before .before .before .before .before .before .before .before .before .before in
+    let ready = s .pre .0 in
+    let latest = c .before .before .before .before .before .before .before .before .before .before .before .before .before .before .before .before .latest-pin .ensures in
+    let soon = pins-soon ready in
     let filled = c .before .before .before .fill .ensures in
     let late = c .before .before .before .before .before .before .before .before .delay .ensures in
-    let last = c .before .before .before .before .before .before .before .before .before .before .before .before .before .before .before .before .latest-pin .result .last in (
+    let last = c .before .before .before .before .before .before .before .before .before .before .before .before .before .before .before .before .latest-pin .result .last in
+    let d = s .args .gate .delay in (
       filled .codes .long,
-      filled-same-after (s .args .hops) (last + c .before .before .before .before .before .before .before .before .before .before .before .before .before .before .before .before .before .before .gate .result .delay) _ _ (late .long) (delayed-settled (c .before .before .before .before .before .before .before .before .before .before .before .before .before .before .before .before .before .before .gate .result .delay) last _ _ late) filled,
-      omega (arith, latest),
-      omega (arith, s .pre .0 .in-time, latest, d),
+      filled-same-after (s .args .hops) (last + d) _ _ (late .long) (delayed-settled d last _ _ late) filled,
+      omega arith,
+      omega (arith, ready .in-time),
     )
 
 array-read-write : tie.Need-array-read-write
@@ -82,16 +90,22 @@ array-read-write c = search needs
 
 cast-write : tie.Need-cast-write
 cast-write c =
-    let s = c .before .before .before .before .before .before .before .before .before .before .before .before .before .before .before .before .before .before .before .before .before .before .before .before .before .before in let latest = latest-is (s .args .file .now) (s .args .net .0) _ (s .args .work .now) (c .before .before .before .before .before .before .before .before .before .before .before .before .before .before .before .before .before .before .before .before .before .gate .ensures) (s .pre .0 .gate) (c .before .before .before .before .before .before .before .before .before .before .before .before .before .before .before .before .before .before .before .latest-pin .ensures) in let d = c .before .before .before .before .before .before .before .before .before .before .before .before .before .before .before .before .before .before .before .before .before .gate .ensures .delay-is in let soon = pins-soon (s .args .file .now) (s .args .net .0) (s .args .work .now) (s .pre .0) (s .args .hops) in
-    omega (arith, s .pre .0 .in-time, latest, d)
+    let s = c .before .before .before .before .before .before .before .before .before .before .before .before .before .before .before .before .before .before .before .before .before .before .before .before in
+    let ready = s .pre .0 in
+    let latest = c .before .before .before .before .before .before .before .before .before .before .before .before .before .before .before .before .before .before .before .latest-pin .ensures in
+    let soon = pins-soon ready in
+    omega (arith, ready .in-time)
 
 cast-write-2 : tie.Need-cast-write-2
 cast-write-2 c =
-    let s = c .before .before .before .before .before .before .before .before .before .before .before .before .before .before .before .before .before .before .before .before .before .before .before .before .before .before in let latest = latest-is (s .args .file .now) (s .args .net .0) _ (s .args .work .now) (c .before .before .before .before .before .before .before .before .before .before .before .before .before .before .before .before .before .before .before .before .before .gate .ensures) (s .pre .0 .gate) (c .before .before .before .before .before .before .before .before .before .before .before .before .before .before .before .before .before .before .before .latest-pin .ensures) in let d = c .before .before .before .before .before .before .before .before .before .before .before .before .before .before .before .before .before .before .before .before .before .gate .ensures .delay-is in let soon = pins-soon (s .args .file .now) (s .args .net .0) (s .args .work .now) (s .pre .0) (s .args .hops) in
-    omega (arith, s .pre .0 .in-time, latest, d, c .before .before .last-change .ensures .soon)
+    let s = c .before .before .before .before .before .before .before .before .before .before .before .before .before .before .before .before .before .before .before .before .before .before .before .before in
+    let ready = s .pre .0 in
+    let latest = c .before .before .before .before .before .before .before .before .before .before .before .before .before .before .before .before .before .before .before .latest-pin .ensures in
+    let soon = pins-soon ready in
+    omega (arith, ready .in-time, c .before .before .last-change .ensures .soon)
 
 write-requires : tie.Need-write-requires
-write-requires c κs = (c .before .before .before .before .before .before .before .before .before .before .before .before .before .before .before .before .before .before .before .before .before .before .before .before .before .before .pre .0 .room, c .before .before .before .before .before .before .fill .ensures .codes)
+write-requires c κs = (c .before .before .before .before .before .before .before .before .before .before .before .before .before .before .before .before .before .before .before .before .before .before .before .before .pre .0 .room, c .before .before .before .before .before .before .fill .ensures .codes)
 
 same-length : tie.Need-same-length
 same-length c = search needs
@@ -101,25 +115,20 @@ same-length-2 c = search needs
 
 returns : tie.Need-returns
 returns c =
-    let s = c .before .before .before .before .before .before .before .before .before .before .before .before .before .before .before .before .before .before .before .before .before .before .before .before .before .before .before .before .before in
-    let file = s .args .file .now in
-    let net = s .args .net .0 in
+    let s = c .before .before .before .before .before .before .before .before .before .before .before .before .before .before .before .before .before .before .before .before .before .before .before .before .before .before .before in
+    let gate = s .args .gate in
     let work = s .args .work .now in
-    let latest = latest-is (s .args .file .now) (s .args .net .0) _ (s .args .work .now) (c .before .before .before .before .before .before .before .before .before .before .before .before .before .before .before .before .before .before .before .before .before .before .before .before .gate .ensures) (s .pre .0 .gate) (c .before .before .before .before .before .before .before .before .before .before .before .before .before .before .before .before .before .before .before .before .before .before .latest-pin .ensures) in
-    let read = c .before .before .before .before .before .before .before .before .before .before .before .before .before .before .before .before .before .before .before .before .before .before .before .before .gate .ensures in
-    let d = read .delay-is in
+    let latest = c .before .before .before .before .before .before .before .before .before .before .before .before .before .before .before .before .before .before .before .before .before .before .latest-pin .ensures in
     let samples = c .before .before .before .before .before .before .before .before .before .before .before .before .before .before .before .before .before .before .gate-samples .last .1 .1 .1 .1 .0 in
-    let g : NetSampled file net work (pinsLastIn file work net + 3) samples = rw (latest .1) at (net-sampled file net _ work _ samples read (s .pre .0 .gate) (c .before .before .before .before .before .before .before .before .before .before .before .before .before .before .before .before .before .before .gate-samples .ensures)) in
-    let late : Delayed (delay file net) (pinsLastIn file work net) samples (c .before .before .before .before .before .before .before .before .before .before .before .before .before .before .delay .last .0) =
-    rw (latest .1, d) at (c .before .before .before .before .before .before .before .before .before .before .before .before .before .before .delay .ensures) in
+    let g : GateSampled gate work (pinsLastIn gate work + 3) samples = rw (latest .1) at (c .before .before .before .before .before .before .before .before .before .before .before .before .before .before .before .before .before .before .gate-samples .ensures) in
+    let late : Delayed (gate .delay) (pinsLastIn gate work) samples (c .before .before .before .before .before .before .before .before .before .before .before .before .before .before .delay .last .0) = rw (latest .1) at (c .before .before .before .before .before .before .before .before .before .before .before .before .before .before .delay .ensures) in
     let w = c .before .before .write .ensures in
-    (gate-made file net work (s .pre .0) (s .args .hops) _ _ samples _ _ _ g late (c .before .before .before .before .before .before .before .before .before .fill .ensures) (rw (latest .0, d) refl) (c .before .before .before .before .before .last-change .ensures) w, sym (w .settles))
+    (gate-made (s .args .net .0) gate work (s .pre .0) (s .args .hops) _ _ samples _ _ _ g late (c .before .before .before .before .before .before .before .before .before .fill .ensures) (ap (λ a. a + gate .delay) (latest .0)) (c .before .before .before .before .before .last-change .ensures) w, sym (w .settles))
 
 pub gate-waveform-spec : {M : Type 1} → statement M
 gate-waveform-spec =
     tie.close
     (tie.spec
-    gate-requires
     latest-pin-requires
     add-arrival
     add-bound

@@ -4,14 +4,13 @@ use Prim.Native.Nat.{_-_, _≤_}
 use mathlib.Core.Path.{_≡_, sym, _∙_}
 use native.Mathlib.Omega.{arith}
 use borrow.Author.Needs.{needs}
-use Rattle.block.specs.View.{pinOf}
 use Rattle.waveform.specs.Pins.{joinedSample, Sampled}
 use Rattle.waveform.proofs.Pins.{first-joined, more-joined}
 use Rattle.waveform.proofs.gate.join_pins.Statement.{statement}
 use Rattle.waveform.proofs.gate.join_pins.Tie as tie
 
 abbrev Inv-loop : tie.InvT-loop
-Inv-loop work joins by n samples₀ gate p₀ samples p = (1 ≤ p) × (p ≤ gate .used) × Sampled (joinedSample (pinOf gate) work by p) n samples
+Inv-loop work joins by n samples₀ gate p₀ samples p = (1 ≤ p) × (p ≤ gate .used) × Sampled (joinedSample gate work by p) n samples
 
 abbrev μ-loop : tie.MeasureT-loop
 μ-loop work joins by n samples₀ gate p₀ samples p = gate .used - p

@@ -7,7 +7,7 @@ use borrow.Author.Needs.{needs}
 use Rattle.laws.specs.Below.{maxBelow}
 use Rattle.laws.proofs.Below.{max-next}
 use Rattle.block.specs.View.{pinOf}
-use Rattle.waveform.specs.Rows.{arrivalIn, lastIn}
+use Rattle.waveform.specs.Rows.{arrivalIn, lastIn, latestIn, pinsLastIn}
 use Rattle.waveform.proofs.gate.latest_pin.Statement.{statement}
 use Rattle.waveform.proofs.gate.latest_pin.Tie as tie
 
@@ -30,14 +30,14 @@ element-copy-out-source c = omega (arith, c .before .before .before .pre .few)
 arrival-requires : tie.Need-arrival-requires Inv-loop μ-loop
 arrival-requires c κs = c .before .before .before .before .pre .row (c .before .before .loop .p) (omega arith)
 
-greater-requires : tie.Need-greater-requires Inv-loop μ-loop
-greater-requires c κs = search needs
+max-usize-requires : tie.Need-max-usize-requires Inv-loop μ-loop
+max-usize-requires c κs = search needs
 
 last-requires : tie.Need-last-requires Inv-loop μ-loop
 last-requires c κs = c .before .before .before .before .before .before .pre .row (c .before .before .before .before .loop .p) (omega arith)
 
-greater-requires-2 : tie.Need-greater-requires-2 Inv-loop μ-loop
-greater-requires-2 c κs = search needs
+max-usize-requires-2 : tie.Need-max-usize-requires-2 Inv-loop μ-loop
+max-usize-requires-2 c κs = search needs
 
 add-p : tie.Need-add-p Inv-loop μ-loop
 add-p c = omega (arith, c .before .before .before .before .before .before .before .before .pre .few)
@@ -51,13 +51,14 @@ loop-again c =
     let arrival = c .before .before .before .arrival in
     let last = c .before .last in (
       omega arith,
-      omega (arith, c .before .before .greater .ensures, arrival .ensures .1),
-      omega (arith, c .greater2 .ensures, last .ensures .1),
-      c .before .before .greater .ensures ∙ rw (l .inv .3, arrival .ensures .0) (sym (max-next (l .p) _)),
-      c .greater2 .ensures ∙ rw (l .inv .4, last .ensures .0) (sym (max-next (l .p) _)),
+      omega (arith, c .before .before .max-usize .ensures, arrival .ensures .1),
+      omega (arith, c .max-usize2 .ensures, last .ensures .1),
+      c .before .before .max-usize .ensures ∙ rw (l .inv .3, arrival .ensures .0) (sym (max-next (l .p) _)),
+      c .max-usize2 .ensures ∙ rw (l .inv .4, last .ensures .0) (sym (max-next (l .p) _)),
     )
 
 returns : tie.Need-returns Inv-loop μ-loop
+unfolding latestIn pinsLastIn
 returns c =
     let l = c .before .loop in
     let e : l .p ≡ c .before .before .before .args .t1 .used = omega arith in
@@ -73,9 +74,9 @@ latest-pin-spec =
     mul-source
     element-copy-out-source
     arrival-requires
-    greater-requires
+    max-usize-requires
     last-requires
-    greater-requires-2
+    max-usize-requires-2
     add-p
     loop-less
     loop-again

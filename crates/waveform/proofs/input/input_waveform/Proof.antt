@@ -17,8 +17,8 @@ held-before-requires c κs = search needs
 held-after-requires : tie.Need-held-after-requires
 held-after-requires c κs = search needs
 
-wide-requires : tie.Need-wide-requires
-wide-requires c κs = search needs
+usize-from-u8-requires : tie.Need-usize-from-u8-requires
+usize-from-u8-requires c κs = search needs
 
 slice-aggregate-hold : tie.Need-slice-aggregate-hold
 slice-aggregate-hold c = search needs
@@ -36,7 +36,7 @@ add-hold : tie.Need-add-hold
 add-hold c = search needs
 
 hold-requires-2 : tie.Need-hold-requires-2
-hold-requires-2 c κs = let s = c .before .before .before .before .before .before .before .before in let hold = c .before .before .hold in let tick = c .before .before .before .before .wide in (omega (arith, tick .ensures), omega (arith, length-set (hold .last .0) (tick .result) (s .args .code), hold .ensures .long, length-replicate {A = ℕ} 256 0))
+hold-requires-2 c κs = let s = c .before .before .before .before .before .before .before .before in let hold = c .before .before .hold in let tick = c .before .before .before .before .usize-from-u8 in (omega (arith, tick .ensures), omega (arith, length-set (hold .last .0) (tick .result) (s .args .code), hold .ensures .long, length-replicate {A = ℕ} 256 0))
 
 slice-aggregate-write : tie.Need-slice-aggregate-write
 slice-aggregate-write c = search needs
@@ -48,12 +48,12 @@ write-requires c κs =
     let switching = s .args .switching in
     let before = c .before .before .before .before .before .before .before .before .before .before .held-before .ensures in
     let after = c .before .before .before .before .before .before .before .before .before .held-after .ensures in
-    let tick = c .before .before .before .before .before .before .before .before .wide .ensures .0 in
+    let tick = c .before .before .before .before .before .before .before .before .usize-from-u8 .ensures .0 in
     let first = c .before .before .before .before .before .before .hold .last .0 in
     let third = c .before .before .before .hold2 .last .0 in
     let u : Rewritten (λ k. code (heldBeforeSet (decode given))) 0 (switching - 0) (replicate 256 0) first = rw (before, tick) at (c .before .before .before .before .before .before .hold .ensures) in
     let v : Rewritten (λ k. code (heldAfterSet (decode given))) (switching + 1) (256 - (switching + 1)) (set first switching given) third = rw (after, tick) at (c .before .before .before .hold2 .ensures) in
-    let in-time : switching < 256 = omega (arith, c .before .before .before .before .before .before .before .before .wide .ensures) in
+    let in-time : switching < 256 = omega (arith, c .before .before .before .before .before .before .before .before .usize-from-u8 .ensures) in
     (s .pre .0, input-codes switching given (replicate 256 0) first third in-time (s .pre .1) (length-replicate {A = ℕ} 256 0) u v)
 
 same-length : tie.Need-same-length
@@ -66,12 +66,12 @@ returns c =
     let switching = s .args .switching in
     let before = c .before .before .before .before .before .before .before .before .before .before .before .before .before .held-before .ensures in
     let after = c .before .before .before .before .before .before .before .before .before .before .before .before .held-after .ensures in
-    let tick = c .before .before .before .before .before .before .before .before .before .before .before .wide .ensures .0 in
+    let tick = c .before .before .before .before .before .before .before .before .before .before .before .usize-from-u8 .ensures .0 in
     let first = c .before .before .before .before .before .before .before .before .before .hold .last .0 in
     let third = c .before .before .before .before .before .before .hold2 .last .0 in
     let u : Rewritten (λ k. code (heldBeforeSet (decode given))) 0 (switching - 0) (replicate 256 0) first = rw (before, tick) at (c .before .before .before .before .before .before .before .before .before .hold .ensures) in
     let v : Rewritten (λ k. code (heldAfterSet (decode given))) (switching + 1) (256 - (switching + 1)) (set first switching given) third = rw (after, tick) at (c .before .before .before .before .before .before .hold2 .ensures) in
-    let in-time : switching < 256 = omega (arith, c .before .before .before .before .before .before .before .before .before .before .before .wide .ensures) in
+    let in-time : switching < 256 = omega (arith, c .before .before .before .before .before .before .before .before .before .before .before .usize-from-u8 .ensures) in
     let w : RowWritten (s .args .net .0) (code (heldBeforeSet (decode given))) switching switching third (s .args .work .now) (c .before .before .write .last .0) = rw before at (c .before .before .write .ensures) in
     input-made switching given (replicate 256 0) first third in-time (s .pre .1) (length-replicate {A = ℕ} 256 0) u v (s .args .net .0) (s .args .work .now) _ w
 
@@ -81,7 +81,7 @@ input-waveform-spec =
     (tie.spec
     held-before-requires
     held-after-requires
-    wide-requires
+    usize-from-u8-requires
     slice-aggregate-hold
     hold-requires
     array-write-codes

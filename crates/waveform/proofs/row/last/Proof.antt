@@ -10,18 +10,18 @@ use Rattle.waveform.proofs.row.last.Tie as tie
 start-requires : tie.Need-start-requires
 start-requires c κs = search needs
 
-add-wide : tie.Need-add-wide
-add-wide c = search needs
+add-usize-from-u8 : tie.Need-add-usize-from-u8
+add-usize-from-u8 c = search needs
 
-shared-slice-read-wide : tie.Need-shared-slice-read-wide
-shared-slice-read-wide c = search needs
+shared-slice-read-usize-from-u8 : tie.Need-shared-slice-read-usize-from-u8
+shared-slice-read-usize-from-u8 c = search needs
 
-wide-requires : tie.Need-wide-requires
-wide-requires c κs = search needs
+usize-from-u8-requires : tie.Need-usize-from-u8-requires
+usize-from-u8-requires c κs = search needs
 
 returns : tie.Need-returns
-returns c = let s = c .before .before .before .before in let e = c .before .before .start .ensures in (c .wide .ensures .0 ∙ ap (λ x. getD (s .args .work .now) (x + 130) 0) e, c .wide .ensures .1)
+returns c = let s = c .before .before .before .before in let e = c .before .before .start .ensures in (c .usize-from-u8 .ensures .0 ∙ ap (λ x. getD (s .args .work .now) (x + 130) 0) e, c .usize-from-u8 .ensures .1)
 
 pub last-spec : {M : Type 1} → statement M
 last-spec =
-    tie.close (tie.spec start-requires add-wide shared-slice-read-wide wide-requires returns)
+    tie.close (tie.spec start-requires add-usize-from-u8 shared-slice-read-usize-from-u8 usize-from-u8-requires returns)
