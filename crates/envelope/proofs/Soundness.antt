@@ -14,6 +14,7 @@ use Rattle.excitation.proofs.Sets.{same-self, same-gives}
 use Rattle.excitation.proofs.OneMember.{member-single}
 use Rattle.block.specs.Block.{Choice}
 use Rattle.block.specs.Record.{File, netCount}
+use Rattle.block.specs.View.{gateOf}
 use Rattle.waveform.specs.Waveform.{Waveform, simulation, envelope, waveforms}
 use Rattle.waveform.proofs.Within.{Within, waveforms-within}
 use Rattle.current.specs.Current.{ticksWhere, gateCurrent, transitionsOf, sheetOf}
@@ -41,21 +42,21 @@ module _ (hops : ℕ) (file : File) {pattern : List Excitation} {sets : List Unc
   net-within net = pairs-at Within (waveforms-within hops file choice (netCount file)) _ _ still-within net
 
   wave-at-most : (net t : ℕ) (v : Waveform Excitation) (w : Waveform UncertaintySet) → Within v w
-      → gateCurrent file net (transitionsOf simulation v) t ≤ gateCurrent file net (transitionsOf (envelope hops) w) t
+      → gateCurrent (gateOf file net) (transitionsOf simulation v) t ≤ gateCurrent (gateOf file net) (transitionsOf (envelope hops) w) t
   unfolding transitionsOf
   wave-at-most net t v w h =
-      current-at-most file net (same lh) (same hl) (member lh) (member hl)
+      current-at-most (gateOf file net) (same lh) (same hl) (member lh) (member hl)
       (Forall₂·imp (allowed-too lh) (h .ticks))
       (Forall₂·imp (allowed-too hl) (h .ticks)) t
 
   gate-at-most : (net t : ℕ)
-      → gateCurrent file net (getD (map (transitionsOf simulation) simulated) net (record { rises = []; falls = [] })) t
-      ≤ gateCurrent file net (getD (map (transitionsOf (envelope hops)) enveloped) net (record { rises = []; falls = [] })) t
+      → gateCurrent (gateOf file net) (getD (map (transitionsOf simulation) simulated) net (record { rises = []; falls = [] })) t
+      ≤ gateCurrent (gateOf file net) (getD (map (transitionsOf (envelope hops)) enveloped) net (record { rises = []; falls = [] })) t
   unfolding transitionsOf ticksWhere
   gate-at-most net t =
-      subst (λ ts. gateCurrent file net ts t ≤ gateCurrent file net (getD (map (transitionsOf (envelope hops)) enveloped) net (record { rises = []; falls = [] })) t)
+      subst (λ ts. gateCurrent (gateOf file net) ts t ≤ gateCurrent (gateOf file net) (getD (map (transitionsOf (envelope hops)) enveloped) net (record { rises = []; falls = [] })) t)
       (sym (List·getD-map (transitionsOf simulation) simulated net (record { before = l; ticks = [] })))
-      (subst (λ ts. gateCurrent file net (transitionsOf simulation (getD simulated net (record { before = l; ticks = [] }))) t ≤ gateCurrent file net ts t)
+      (subst (λ ts. gateCurrent (gateOf file net) (transitionsOf simulation (getD simulated net (record { before = l; ticks = [] }))) t ≤ gateCurrent (gateOf file net) ts t)
       (sym (List·getD-map (transitionsOf (envelope hops)) enveloped net (record { before = single l; ticks = [] })))
       (wave-at-most net t _ _ (net-within net)))
 

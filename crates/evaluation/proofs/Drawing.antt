@@ -1,12 +1,12 @@
 -- The gates drawn one after the other make the sheet of the definitions.
 -- Assumes nothing.
 use Prim.Native.Nat.{ℕ, _+_, _*_, _/_, _%_, _≤_, _<_}
-use mathlib.Core.Bool.{true, cond}
+use mathlib.Core.Bool.{true, false, cond}
 use mathlib.Core.List.{List, [], _∷_, _++_, map}
 use mathlib.Core.Path.{_≡_, refl, ap, sym, subst, _∙_}
 use native.Mathlib.Omega.{arith}
 use lib.Dec.{eqb, ltb}
-use lib.ListN.{length, getD, List·getD-map}
+use lib.ListN.{length, getD, List·getD-map, List·getD-eq-default}
 use borrow.Author.Count.{below-more}
 use borrow.Author.Tests.{eqb-true, eqb-false, ltb-true, ltb-false}
 use borrow.Table.Steps.{cases}
@@ -19,18 +19,22 @@ use Rattle.excitation.specs.UncertaintySet.{UncertaintySet, member, decode, emp
 use Rattle.excitation.proofs.Codes.{set-at}
 use Rattle.block.specs.Accepted.{AcceptedFile, GateRecord}
 use Rattle.block.specs.Block.{latestPin, arrivalFrom, arrivals, arrival, switchingTick}
-use Rattle.block.specs.Record.{File, netCount, contact, delay, pinCount, pin, isInput}
-use Rattle.block.proofs.Accepted.{has-record, arrival-at}
+use Rattle.block.specs.Limits.{gateLimit}
+use Rattle.block.specs.Record.{File, netCount, isInput}
+use Rattle.block.specs.View.{pinOf, GateRead}
+use Rattle.block.specs.declared.Gate.{Gate}
+use Rattle.block.proofs.Accepted.{arrival-at}
 use Rattle.fill.specs.Codes.{setsOf}
 use Rattle.waveform.specs.Rows.{waveformIn, waveformsIn, arrivalIn, arrivalsIn, lastIn, latestIn, SettledRow, Ready, GateMade}
 use Rattle.waveform.specs.Waveform.{envelope, inputWaveform, gateWaveform, netWaveform, waveforms}
 use Rattle.waveform.proofs.Settles.{Settles, firstTick, waveformOf, waveform-at, net-settles}
 use Rattle.waveform.proofs.Waveforms.{net-input, net-gate}
 use Rattle.current.specs.Current.{Transitions, ticksWhere, gateCurrent, part, contactCurrent, sheetWords, transitionsOf, sheetOf}
-use Rattle.current.specs.Drawing.{transitionsIn, Drawable, Drawn}
+use Rattle.current.specs.Drawing.{sheetIn, transitionsIn, Drawable, Drawn}
 use Rattle.current.specs.Words.{Cleared}
 use Rattle.current.proofs.Contacts.{part-of-gate, part-of-input}
 use Rattle.current.proofs.Sheets.{sheet-is}
+use Rattle.current.proofs.Totals.{total-cleared, total-drawn, word-within-total}
 use Rattle.evaluation.specs.Evaluation.{HasRows, InputsMade}
 use Rattle.evaluation.proofs.Rows.{has-row, waveform-kept, arrival-kept, settled-kept}
 
@@ -38,14 +42,14 @@ use Rattle.evaluation.proofs.Rows.{has-row, waveform-kept, arrival-kept
 abbrev pub transitionsFrom : File → ℕ → List UncertaintySet → List Transitions
 transitionsFrom file hops sets = map (transitionsOf (envelope hops)) (waveforms (envelope hops) file sets (netCount file))
 
--- The buffers once the first n nets are evaluated.
+-- The buffers once the first n nets are evaluated. At each tick no more flows than n gates may draw.
 pub record Evaluating (file : File) (hops : ℕ) (sets : List UncertaintySet) (n : ℕ) (work words : List ℕ) : Type 0 where
   pub waves : waveformsIn work n ≡ waveforms (envelope hops) file sets n
   pub times : arrivalsIn work n ≡ arrivals file n
   pub settled : (net : ℕ) → net < n → SettledRow work net
   pub long : length words ≡ 8192
   pub at : (i : ℕ) → i < 8192 → getD words i 0 ≡ sumBelow n (part file (transitionsFrom file hops sets) (i / 512) (i % 512))
-  pub most : (i : ℕ) → getD words i 0 ≤ n * 65535
+  pub most : (t : ℕ) → t < 512 → sumBelow 16 (λ c. sheetIn words c t) ≤ n * gateLimit
 
 module _ (file : File) (nets inputs : ℕ) (accepted : AcceptedFile file nets inputs) (hops : ℕ) (sets : List UncertaintySet) where
   abbrev transitions : List Transitions
@@ -63,28 +67,37 @@ module _ (file : File) (nets inputs : ℕ) (accepted : AcceptedFile file nets in
     unfolding arrivalsIn
     time-in m h = sym (list-at n (arrivalIn work) m 0 h) ∙ ap (λ ts. getD ts m 0) (done .times) ∙ arrival-at file n m h
 
-    module _ (gate : GateRecord file n) (here : n < nets) where
-      latest-in : latestIn file work n ≡ latestPin file (arrivals file n) n
+    -- The next net is a gate, which is read.
+    module _ (low : inputs ≤ n) (here : n < nets) {gate : Gate} (read : GateRead file n gate) where
+      pub next-checked : GateRecord n gate
+      next-checked = subst (GateRecord n) (sym (read .is)) (accepted .gate n low here)
+
+      no-input : isInput file n ≡ false
+      no-input = accepted .no-input n low here
+
+      latest-in : latestIn gate work ≡ latestPin gate (arrivals file n)
       unfolding latestIn latestPin
       latest-in =
-          max-same (pinCount file n) _ _
-          (λ p h. let b = gate .pin-below p h in time-in (pin file n p) b ∙ sym (arrival-at file n (pin file n p) b))
+          max-same (gate .used) _ _
+          (λ p h. let b = next-checked .pin-below p h in time-in (pinOf gate p) b ∙ sym (arrival-at file n (pinOf gate p) b))
 
-      arrival-is : latestIn file work n + delay file n ≡ arrival file n
+      arrival-is : latestIn gate work + gate .delay ≡ arrival file n
       unfolding arrivalFrom
-      arrival-is = rw (gate .gate, latest-in) refl
+      arrival-is = rw (no-input, latest-in) (ap (λ g. latestPin g (arrivals file n) + g .delay) (read .is))
 
-      -- The next gate can be made.
-      pub next-ready : HasRows work nets → Ready file n work
+      -- Its waveform can be made.
+      pub next-ready : HasRows work nets → Ready n gate work
       next-ready rows = record {
-        has-record = has-record file nets inputs n accepted here;
-        gate = gate;
+        checked = next-checked;
         room = has-row n rows here;
-        settled = λ p h. done .settled (pin file n p) (gate .pin-below p h);
+        settled = λ p h. done .settled (pinOf gate p) (next-checked .pin-below p h);
         in-time = (let a = accepted .arrives n here in omega (arith, arrival-is, a));
       }
 
-      module _ {after codes : List ℕ} (made : GateMade file n hops work after codes) where
+      module _ {after codes : List ℕ} (made : GateMade n gate hops work after codes) where
+        pub next-arrives : arrivalIn after n ≡ arrival file n
+        next-arrives = made .arrives ∙ arrival-is
+
         waves-kept : waveformsIn after n ≡ waveformsIn work n
         unfolding waveformsIn
         waves-kept = list-same n (waveformIn after) (waveformIn work) (waveformIn work 0) (λ m h. waveform-kept (made .others) m (λ e. omega arith))
@@ -95,8 +108,9 @@ module _ (file : File) (nets inputs : ℕ) (accepted : AcceptedFile file nets in
 
         made-is : waveformIn after n ≡ netWaveform (envelope hops) file sets (waveforms (envelope hops) file sets n) n
         made-is =
-            made .waveform ∙ ap (λ ws. gateWaveform (envelope hops) file ws n) (done .waves)
-            ∙ sym (net-gate (envelope hops) file sets (waveforms (envelope hops) file sets n) n (gate .gate))
+            made .waveform ∙ ap (gateWaveform (envelope hops) gate) (done .waves)
+            ∙ ap (λ g. gateWaveform (envelope hops) g (waveforms (envelope hops) file sets n)) (read .is)
+            ∙ sym (net-gate (envelope hops) file sets (waveforms (envelope hops) file sets n) n no-input)
 
         waves-next : waveformsIn after (n + 1) ≡ waveforms (envelope hops) file sets (n + 1)
         unfolding waveformsIn waveforms
@@ -109,7 +123,7 @@ module _ (file : File) (nets inputs : ℕ) (accepted : AcceptedFile file nets in
         unfolding arrivalsIn arrivals
         times-next =
             list-next n (arrivalIn after) ∙ ap (λ ts. ts ++ (arrivalIn after n ∷ [])) (times-kept ∙ done .times)
-            ∙ ap (λ t. arrivals file n ++ (t ∷ [])) (made .arrives ∙ arrival-is) ∙ sym (turn-next (arrivalFrom file) n)
+            ∙ ap (λ t. arrivals file n ++ (t ∷ [])) next-arrives ∙ sym (turn-next (arrivalFrom file) n)
 
         ticks-are : setsOf codes ≡ waveformOf file nets inputs accepted hops sets n .ticks
         unfolding waveformOf
@@ -126,8 +140,11 @@ module _ (file : File) (nets inputs : ℕ) (accepted : AcceptedFile file nets in
         settles : Settles (firstTick file n) (arrival file n) (waveformOf file nets inputs accepted hops sets n)
         settles = net-settles file nets inputs accepted hops sets n here
 
-        early : (t : ℕ) → t < delay file n → Held (decode (getD codes t 0))
-        early t h = subst Held (sym (coded-at t)) (settles .early t (rw (gate .gate) h))
+        first-tick : firstTick file n ≡ gate .delay
+        first-tick = rw no-input (ap (λ g. g .delay) (sym (read .is)))
+
+        early : (t : ℕ) → t < gate .delay → Held (decode (getD codes t 0))
+        early t h = subst Held (sym (coded-at t)) (settles .early t (rw first-tick h))
 
         late : (t : ℕ) → arrival file n < t → Held (decode (getD codes t 0))
         late t h = subst Held (sym (coded-at t)) (settles .late t h)
@@ -145,16 +162,22 @@ module _ (file : File) (nets inputs : ℕ) (accepted : AcceptedFile file nets in
             cases (eqb (arrivalIn after n) 255)
             (λ z. let end = made .at-end (eqb-true (arrivalIn after n) 255 z) in absurd (omega arith))
             (λ z. let early : (arrivalIn after n ≡ 255 → ⊥) = eqb-false (arrivalIn after n) 255 z in
-            subst Held (sym (last-set t (omega arith) q)) (late 255 (omega (arith, made .arrives, arrival-is)))))
+            subst Held (sym (last-set t (omega arith) q)) (late 255 (omega (arith, next-arrives)))))
             (λ b. let q = ltb-false t 256 b in late t (omega arith))
 
         -- It can be drawn.
-        pub next-drawable : (last : ℕ) → last ≡ lastIn after n → Drawable file n codes last words
+        word-low : (i : ℕ) → getD words i 0 ≤ n * gateLimit
+        word-low i =
+            cases (ltb i 8192)
+            (λ b. let q = ltb-true i 8192 b in omega (arith, word-within-total words i q, done .most (i % 512) (omega arith)))
+            (λ b. let q = ltb-false i 8192 b in omega (arith, List·getD-eq-default words 0 {n = i} (omega (arith, done .long))))
+
+        pub next-drawable : (last : ℕ) → last ≡ lastIn after n → Drawable gate codes last words
         next-drawable last e = record {
-          has-record = has-record file nets inputs n accepted here;
-          gate = gate;
+          ranges = next-checked .ranges;
+          fits = read .fits;
           coded = made .coded;
-          in-time = (let arrives = accepted .arrives n here in omega (arith, made .settled .soon, made .arrives, arrival-is));
+          in-time = (let arrives = accepted .arrives n here in omega (arith, made .settled .soon, next-arrives));
           between = record {
             no-rise-before = λ t h. early t h .no-lh;
             no-fall-before = λ t h. early t h .no-hl;
@@ -162,7 +185,7 @@ module _ (file : File) (nets inputs : ℕ) (accepted : AcceptedFile file nets in
             no-fall-after = λ t h. later last t e h .no-hl;
           };
           long = done .long;
-          room = λ i. (let m = done .most i in let q = accepted .few-nets in omega arith);
+          room = λ i. (let q = accepted .few-nets in omega (arith, word-low i));
         }
 
         transitions-are : transitionsIn codes ≡ getD transitions n (record { rises = []; falls = [] })
@@ -171,19 +194,21 @@ module _ (file : File) (nets inputs : ℕ) (accepted : AcceptedFile file nets in
             ap (λ xs. record { rises = ticksWhere (member lh) 0 xs; falls = ticksWhere (member hl) 0 xs }) ticks-are
             ∙ sym (net-transitions n (omega arith))
 
-        part-is : (c t : ℕ) → cond (eqb (contact file n) c) (gateCurrent file n (transitionsIn codes) t) 0 ≡ part file transitions c t n
+        part-is : (c t : ℕ) → cond (eqb (gate .contact) c) (gateCurrent gate (transitionsIn codes) t) 0 ≡ part file transitions c t n
         part-is c t =
-            ap (λ ts. cond (eqb (contact file n) c) (gateCurrent file n ts t) 0) transitions-are ∙ sym (part-of-gate file transitions c t n (gate .gate))
+            ap (λ ts. cond (eqb (gate .contact) c) (gateCurrent gate ts t) 0) transitions-are
+            ∙ ap (λ g. cond (eqb (g .contact) c) (gateCurrent g (getD transitions n (record { rises = []; falls = [] })) t) 0) (read .is)
+            ∙ sym (part-of-gate file transitions c t n no-input)
 
         -- And then it is evaluated.
-        pub next-evaluated : {drawn : List ℕ} → Drawn file n codes words drawn → Evaluating file hops sets (n + 1) after drawn
+        pub next-evaluated : {drawn : List ℕ} → Drawn gate codes words drawn → Evaluating file hops sets (n + 1) after drawn
         next-evaluated drawn = record {
           waves = waves-next;
           times = times-next;
           settled = below-more (SettledRow after) n (λ net h. settled-kept (made .others) net (λ e. omega arith) (done .settled net h)) (made .settled);
           long = drawn .long;
           at = λ i h. drawn .at i h ∙ rw (done .at i h, part-is (i / 512) (i % 512)) (sym (sum-next n (part file transitions (i / 512) (i % 512))));
-          most = λ i. (let a = drawn .most i in let b = done .most i in omega arith);
+          most = λ t h. (let more = total-drawn drawn t h in let before = done .most t h in omega arith);
         }
 
   -- Every gate is evaluated: the sheet is the definition's.
@@ -221,5 +246,5 @@ module _ (file : File) (nets inputs : ℕ) (accepted : AcceptedFile file nets in
     settled = made .settled;
     long = clear .long;
     at = λ i h. clear .at i ∙ sym (inputs-quiet (i / 512) (i % 512) inputs (omega arith));
-    most = λ i. omega (arith, clear .at i);
+    most = λ t h. omega (arith, total-cleared clear t);
   }

@@ -1,17 +1,21 @@
 -- Evaluation of a block: the sheet of a pattern's simulation and of a case's envelope, and what the code makes of them.
-use Prim.Native.Nat.{ℕ, _*_, _≤_, _<_, _^_}
+use Prim.Native.Nat.{ℕ, _*_, _≤_, _<_}
 use mathlib.Core.List.{List}
 use mathlib.Core.Path.{_≡_}
 use lib.ListN.{length, getD}
+use Rattle.laws.specs.Below.{sumBelow}
 use Rattle.excitation.specs.UncertaintySet.{UncertaintySet, decode, setsIn}
 use Rattle.excitation.specs.declared.Excitation.{Excitation}
 use Rattle.block.specs.Accepted.{AcceptedFile}
-use Rattle.block.specs.Block.{arrivals, quietTick, switchingTick}
+use Rattle.block.specs.Block.{settlingTick, switchingTick}
+use Rattle.block.specs.Limits.{blockLimit, dropLimit}
 use Rattle.block.specs.Record.{File}
-use Rattle.waveform.specs.Rows.{waveformIn, arrivalIn, arrivalsIn, SettledRow}
+use Rattle.waveform.specs.Rows.{waveformIn, arrivalIn, SettledRow}
 use Rattle.waveform.specs.Waveform.{simulation, envelope, inputWaveform}
 use Rattle.current.specs.Current.{Sheet, sheetOf, sheetWords, dropOf}
-use Rattle.evaluation.specs.declared.Currents.{Currents}
+use Rattle.current.specs.Drawing.{sheetIn}
+use Rattle.operation.specs.declared.Currents.{Currents}
+use Rattle.evaluation.specs.declared.Setting.{Setting}
 
 -- The currents of a pattern's simulation.
 abbrev pub simulatedSheet : File → List Excitation → Sheet
@@ -20,6 +24,11 @@ simulatedSheet = sheetOf simulation
 -- The envelope of a case, given by the sets of its inputs.
 abbrev pub envelopeSheet : ℕ → File → List UncertaintySet → Sheet
 envelopeSheet hops = sheetOf (envelope hops)
+
+-- Document 01's quiet tick of a block and a sheet of it, after which rows are 0: the greatest arrival − D + r + f of a gate, 0 without
+-- gates.
+unfoldable pub quietTick : File → Sheet → ℕ
+quietTick file sheet = settlingTick file
 
 -- A work buffer with a row for each net.
 pub record HasRows (work : List ℕ) (nets : ℕ) : Type 0 where
@@ -38,24 +47,31 @@ pub record InputsMade (file : File) (inputs : ℕ) (codes work after : List ℕ)
   pub arrives : (net : ℕ) → net < inputs → arrivalIn after net ≡ switchingTick file net
   pub settled : (net : ℕ) → net < inputs → SettledRow after net
 
--- What an evaluation is given: an accepted file, the codes of the inputs' sets, a hop limit, a sheet and a work buffer.
-pub record Given (file : File) (nets inputs : ℕ) (codes : List ℕ) (hops : ℕ) (words work : List ℕ) : Type 0 where
-  pub accepted : AcceptedFile file nets inputs
-  pub codes-low : InputCodes inputs codes
-  pub some-hops : 1 ≤ hops
+-- What an evaluation is given beside the inputs' sets: an accepted file, its counts of nets and inputs with a hop limit, a sheet and a
+-- work buffer.
+pub record Evaluable (file : File) (setting : Setting) (words work : List ℕ) : Type 0 where
+  pub accepted : AcceptedFile file (setting .nets) (setting .inputs)
+  pub some-hops : 1 ≤ setting .hops
   pub sheet-long : length words ≡ 8192
-  pub rows : HasRows work nets
+  pub rows : HasRows work (setting .nets)
 
--- The sheet once every gate is drawn, and the arrivals in the work buffer.
-pub record BlockDrawn (file : File) (nets inputs : ℕ) (codes : List ℕ) (hops : ℕ) (work words after : List ℕ) : Type 0 where
-  pub sheet : words ≡ sheetWords (envelopeSheet hops file (setsIn inputs codes))
-  pub most : (i : ℕ) → getD words i 0 ≤ nets * 65535
-  pub times : arrivalsIn after nets ≡ arrivals file nets
-  pub long : length after ≡ length work
+-- The sheet of a block whose inputs have the sets of these codes.
+abbrev pub sheetFor : File → Setting → List ℕ → Sheet
+sheetFor file setting codes = envelopeSheet (setting .hops) file (setsIn (setting .inputs) codes)
 
--- What an evaluation answers: the drop and the quiet tick, and the sheet. 2 ^ 46 is above every drop.
-pub record Evaluated (file : File) (sets : List UncertaintySet) (hops : ℕ) (table : List ℕ) (answer : Currents) (words : List ℕ) : Type 0 where
-  pub sheet : words ≡ sheetWords (envelopeSheet hops file sets)
-  pub drop : answer .drop ≡ dropOf table (envelopeSheet hops file sets)
-  pub low : answer .drop < 2 ^ 46
-  pub quiet : answer .quiet ≡ quietTick file
+-- The sheet once every gate is drawn, and the tick after which no pulse is left. At no tick do the contacts draw more than all gates may.
+pub record BlockDrawn (file : File) (setting : Setting) (codes : List ℕ) (settling : ℕ) (words : List ℕ) : Type 0 where
+  pub sheet : words ≡ sheetWords (sheetFor file setting codes)
+  pub most : (t : ℕ) → t < 512 → sumBelow 16 (λ c. sheetIn words c t) ≤ blockLimit
+  pub settled : settling ≡ settlingTick file
+  pub soon : settling < 511
+
+-- The drop and the quiet tick of a sheet of a block.
+abbrev pub currentsOf : File → List ℕ → Sheet → Currents
+currentsOf file table sheet = record { drop = dropOf table sheet; quiet = quietTick file sheet }
+
+-- What an evaluation gives: a sheet in its words, and the sheet's drop and quiet tick.
+pub record Evaluated (file : File) (table : List ℕ) (sheet : Sheet) (answer : Currents) (words : List ℕ) : Type 0 where
+  pub answered : answer ≡ currentsOf file table sheet
+  pub written : words ≡ sheetWords sheet
+  pub low : answer .drop < dropLimit

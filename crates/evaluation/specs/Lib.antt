@@ -1,3 +1,1 @@
 pub mod Evaluation
-pub mod Arguments
-pub mod Operation

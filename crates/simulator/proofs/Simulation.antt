@@ -4,21 +4,22 @@ use Prim.Native.Nat.{ℕ, suc, _≤_, _<_}
 use mathlib.Core.List.{List, [], _∷_, map}
 use mathlib.Core.Path.{_≡_, refl, ap, sym, subst, _∙_}
 use native.Mathlib.Omega.{arith}
-use lib.ListN.{length}
-use Rattle.excitation.specs.Excitation.{same, hl, lh, patternOf}
-use Rattle.excitation.specs.UncertaintySet.{member, single, setsIn}
+use lib.ListN.{getD}
+use Rattle.laws.proofs.Turn.{list-map, list-same}
+use Rattle.excitation.specs.Excitation.{same, hl, lh, excitationOf, patternOf}
+use Rattle.excitation.specs.UncertaintySet.{member, decode, empty, single, setsIn}
 use Rattle.excitation.specs.declared.Excitation.{Excitation}
-use Rattle.excitation.proofs.Codes.{code-below}
+use Rattle.excitation.proofs.Codes.{code-below, decode-code}
 use Rattle.excitation.proofs.OneMember.{member-single}
 use Rattle.block.specs.Accepted.{AcceptedFile}
 use Rattle.block.specs.Record.{File, netCount}
 use Rattle.waveform.specs.Waveform.{Waveform, simulation, envelope, waveforms}
 use Rattle.waveform.proofs.Singles.{singles, waveforms-single}
 use Rattle.current.specs.Current.{ticksWhere, transitionsOf, contactCurrent, sheetOf}
-use Rattle.evaluation.specs.Evaluation.{simulatedSheet, envelopeSheet, HasRows, Given, Evaluated}
-use Rattle.evaluation.specs.declared.Currents.{Currents}
-use Rattle.simulator.specs.Simulate.{PatternCodes, PatternEvaluated, patternSheet}
-use Rattle.simulator.proofs.Patterns.{pattern-sets}
+use Rattle.operation.specs.declared.Currents.{Currents}
+use Rattle.evaluation.specs.Evaluation.{simulatedSheet, envelopeSheet, InputCodes, Evaluated}
+use Rattle.evaluation.specs.declared.Setting.{Setting}
+use Rattle.simulator.specs.Simulate.{PatternCodes, SinglesEvaluated, patternSheet}
 
 ticks-single : (e : Excitation) (t : ℕ) (xs : List Excitation) → ticksWhere (member e) t (map single xs) ≡ ticksWhere (same e) t xs
 unfolding ticksWhere
@@ -37,30 +38,32 @@ sheet-single hops file pattern enough =
     (ap (map (transitionsOf (envelope hops))) (waveforms-single hops enough file pattern (netCount file))
     ∙ transitions-single hops (waveforms simulation file pattern (netCount file)))
 
-module _ {file : File} {nets inputs : ℕ} (accepted : AcceptedFile file nets inputs) {pattern codes : List ℕ} (coded : PatternCodes inputs pattern codes) where
-  pub pattern-given : {hops : ℕ} {sheet work : List ℕ} → 1 ≤ hops → length sheet ≡ 8192 → HasRows work nets
-      → Given file nets inputs codes hops sheet work
-  pattern-given some long rows = record {
-    accepted = accepted;
-    codes-low = record {
-      enough = omega (arith, coded .long, accepted .few-inputs);
-      low = λ net h. subst (λ x. x < 16) (sym (coded .at net h)) (code-below _);
-    };
-    some-hops = some;
-    sheet-long = long;
-    rows = rows;
+-- An evaluation of single sets, with nothing filled.
+pub singles-evaluated : {file : File} {table words : List ℕ} {answer : Currents} (setting : Setting) (codes : List ℕ) (hops : ℕ) → 128 ≤ hops
+    → Evaluated file table (envelopeSheet hops file (setsIn (setting .inputs) codes)) answer words
+    → SinglesEvaluated file setting codes table answer words
+singles-evaluated {file} {table} {words} {answer} setting codes hops enough e pattern are =
+    subst (λ sheet. Evaluated file table sheet answer words) (ap (envelopeSheet hops file) are ∙ sheet-single hops file pattern enough) e
+
+-- The codes of a pattern: their sets have its excitations as their one members.
+module _ {inputs : ℕ} {pattern codes : List ℕ} (coded : PatternCodes inputs pattern codes) where
+  pub pattern-codes : inputs ≤ 64 → InputCodes inputs codes
+  pattern-codes few = record {
+    enough = omega (arith, coded .long);
+    low = λ net h. subst (λ x. x < 16) (sym (coded .at net h)) (code-below _);
   }
 
-  simulates : (hops : ℕ) → 128 ≤ hops → envelopeSheet hops file (setsIn inputs codes) ≡ patternSheet file pattern
-  simulates hops enough =
-      ap (envelopeSheet hops file) (pattern-sets inputs pattern codes coded) ∙ sheet-single hops file (patternOf inputs pattern) enough
-      ∙ ap (λ n. simulatedSheet file (patternOf n pattern)) (sym (accepted .input-count))
+  pub pattern-sets : setsIn inputs codes ≡ map single (patternOf inputs pattern)
+  unfolding setsIn patternOf
+  pattern-sets =
+      list-same inputs (λ net. decode (getD codes net 0)) (λ net. single (excitationOf (getD pattern net 0))) empty
+      (λ net h. ap decode (coded .at net h) ∙ decode-code _)
+      ∙ sym (list-map single inputs (λ net. excitationOf (getD pattern net 0)))
 
-  pub pattern-evaluated : {hops : ℕ} {table sheet : List ℕ} {currents : Currents} → 128 ≤ hops
-      → Evaluated file (setsIn inputs codes) hops table currents sheet → PatternEvaluated file table pattern currents sheet
-  pattern-evaluated {hops} enough e = record {
-    drop = e .drop ∙ rw (simulates hops enough) refl;
-    quiet = e .quiet;
-    low = e .low;
-    sheet = e .sheet ∙ rw (simulates hops enough) refl;
-  }
+-- A pattern is simulated by its codes.
+pub pattern-evaluated : {file : File} {table words : List ℕ} {answer : Currents} (setting : Setting) {pattern codes : List ℕ}
+    → AcceptedFile file (setting .nets) (setting .inputs) → PatternCodes (setting .inputs) pattern codes
+    → SinglesEvaluated file setting codes table answer words → Evaluated file table (patternSheet file pattern) answer words
+pattern-evaluated {file} {table} {words} {answer} setting {pattern} accepted coded e =
+    subst (λ n. Evaluated file table (simulatedSheet file (patternOf n pattern)) answer words) (sym (accepted .input-count))
+    (e _ (pattern-sets coded))

@@ -1,73 +1,33 @@
 // Simulate: the currents of one pattern.
 ghost use mathlib.Core.Path.{_≡_};
-ghost use Prim.Native.Nat.{_*_, _≤_};
+ghost use Prim.Native.Nat.{_≤_};
 ghost use mathlib.Core.List.{_++_};
 ghost use lib.ListN.{length};
-ghost use Rattle.block.specs.Record.{HasRecord};
 ghost use Rattle.block.specs.Accepted.{AcceptedFile};
 ghost use Rattle.block.specs.Verdict.{verdict};
-ghost use Rattle.evaluation.specs.Evaluation.{HasRows};
-ghost use Rattle.simulator.specs.Simulate.{byteAllowed, bytesFrom, sizeChecks, PatternCodes, PatternEvaluated, Simulated};
-use block::Net;
+ghost use Rattle.operation.specs.Pattern.{byteChecks};
+ghost use Rattle.evaluation.specs.Evaluation.{InputCodes, Evaluable, Evaluated};
+ghost use Rattle.simulator.specs.Simulate.{sizeChecks, patternSheet, PatternCodes, SinglesEvaluated, Simulated};
 use block::ReadAnswer;
 use block::Verdict;
-use block::record;
 use current::Word;
-use evaluation::Currents;
-use evaluation::CurrentsAnswer;
-use evaluation::arguments;
-use excitation::Set;
+use evaluation::Setting;
+use operation::Currents;
+use operation::CurrentsAnswer;
+use operation::arguments;
+use operation::pattern;
 
 // More hops than 256 ticks can have runs: nothing is filled.
 const UNLIMITED: usize = 128;
 
-// Whether a pattern's byte is one that byte 18 of an input allows.
-fn byte_allowed(file: &[u8], net: Net, byte: u8) -> bool
-    requires { ⌜ HasRecord (now file) (net .0) ⌝ }
-    ensures { λ r. ⌜ r ≡ byteAllowed (now (file .entry)) (net .0) byte ⌝ }
-{
-    if 3 < byte {
-        return false;
-    }
-    let set = Set {
-        code: record::allowed(file, net) as u8,
-    };
-    set.contains(excitation::excitation_of(byte))
-}
-
-// Check 16, on the bytes of the inputs in order.
-fn check_pattern(file: &[u8], inputs: usize, pattern: &[u8]) -> Verdict
-    requires { ⌜ (20 * inputs ≤ length (now file)) × (inputs ≤ 64) × (length (now pattern) ≡ 64) ⌝ }
-    ensures { λ r. ⌜ r ≡ verdict (bytesFrom (now (file .entry)) (now (pattern .entry)) 0 inputs) ⌝ }
-{
-    let mut net: usize = 0;
-    while net < inputs {
-        if !byte_allowed(file, Net(net), pattern[net]) {
-            return block::refused(16, net as u64);
-        }
-        net += 1;
-    }
-    Verdict::Accepted
-}
-
 // Checks 12 and 15, in order.
 fn check_sizes(nets: usize, table: usize, sheet: usize, pattern: usize, work: usize) -> Verdict
-    requires { ⌜ nets ≤ 1024 ⌝ }
     ensures { λ r. ⌜ r ≡ verdict (sizeChecks nets table sheet pattern work) ⌝ }
 {
-    if !arguments::table_right(table) {
-        return block::refused(12, 0);
-    }
-    if sheet != 8192 {
-        return block::refused(15, 1);
-    }
-    if pattern != 64 {
-        return block::refused(15, 2);
-    }
-    if work < 160 * nets {
-        return block::refused(15, 3);
-    }
-    Verdict::Accepted
+    let v = arguments::check_table(Verdict::Accepted, table);
+    let v = arguments::check_sheet(v, sheet);
+    let v = arguments::check_pattern_length(v, pattern);
+    arguments::check_work(v, nets, work)
 }
 
 // Checks 12, 15 and 16, in order.
@@ -81,11 +41,11 @@ fn check_arguments(
     work: usize,
 ) -> Verdict
     requires { ⌜ AcceptedFile (now file) nets inputs ⌝ }
-    ensures { λ r. ⌜ r ≡ verdict (sizeChecks nets table sheet (length (now (pattern .entry))) work ++ bytesFrom (now (file .entry)) (now (pattern .entry)) 0 inputs) ⌝ }
+    ensures { λ r. ⌜ r ≡ verdict (sizeChecks nets table sheet (length (now (pattern .entry))) work ++ byteChecks (now (file .entry)) (now (pattern .entry)) inputs) ⌝ }
 {
     match check_sizes(nets, table, sheet, pattern.len(), work) {
         Verdict::Refused(r) => Verdict::Refused(r),
-        Verdict::Accepted => check_pattern(file, inputs, pattern),
+        Verdict::Accepted => pattern::check_pattern(file, inputs, pattern),
     }
 }
 
@@ -101,22 +61,42 @@ fn pattern_codes(pattern: &[u8], inputs: usize, codes: &mut [u8])
     }
 }
 
-// The simulation of an accepted file's pattern: its sheet, drop and quiet tick.
-pub fn evaluate_pattern(
+// The simulation of an accepted file's pattern, given by the codes of its single sets: its sheet, drop and quiet tick. The setting's hop
+// limit is not looked at.
+pub fn evaluate_singles(
     file: &[u8],
-    nets: usize,
-    inputs: usize,
+    setting: Setting,
+    codes: &[u8],
+    table: &[u16],
+    sheet: &mut [Word],
+    work: &mut [u8],
+) -> Currents
+    requires { ⌜ Evaluable (now file) setting (now sheet) (now work) × InputCodes (setting .inputs) (now codes) ⌝ }
+    ensures { λ r. ⌜ SinglesEvaluated (now (file .entry)) setting (now (codes .entry)) (now (table .entry)) r (now (sheet .exit)) ⌝ }
+{
+    let unfilled = Setting {
+        nets: setting.nets,
+        inputs: setting.inputs,
+        hops: UNLIMITED,
+    };
+    evaluation::evaluate(file, unfilled, codes, table, sheet, work)
+}
+
+// The simulation of an accepted file's pattern.
+fn evaluate_pattern(
+    file: &[u8],
+    setting: Setting,
     table: &[u16],
     sheet: &mut [Word],
     pattern: &[u8],
     work: &mut [u8],
 ) -> Currents
-    requires { ⌜ AcceptedFile (now file) nets inputs × (length (now sheet) ≡ 8192) × (length (now pattern) ≡ 64) × HasRows (now work) nets ⌝ }
-    ensures { λ r. ⌜ PatternEvaluated (now (file .entry)) (now (table .entry)) (now (pattern .entry)) r (now (sheet .exit)) ⌝ }
+    requires { ⌜ Evaluable (now file) setting (now sheet) (now work) × (length (now pattern) ≡ 64) ⌝ }
+    ensures { λ r. ⌜ Evaluated (now (file .entry)) (now (table .entry)) (patternSheet (now (file .entry)) (now (pattern .entry))) r (now (sheet .exit)) ⌝ }
 {
     let mut codes = [0u8; 64];
-    pattern_codes(pattern, inputs, &mut codes);
-    evaluation::evaluate(file, nets, inputs, &codes, UNLIMITED, table, sheet, work)
+    pattern_codes(pattern, setting.inputs, &mut codes);
+    evaluate_singles(file, setting, &codes, table, sheet, work)
 }
 
 // Simulate: the checks in order, then the sheet, drop and quiet tick of the pattern.
@@ -127,7 +107,7 @@ pub fn simulate(
     pattern: &[u8],
     work: &mut [u8],
 ) -> CurrentsAnswer
-    ensures { λ r. ⌜ Simulated (now (file .entry)) (now (table .entry)) (now (sheet .entry)) (now (pattern .entry)) (now (work .entry)) r (now (sheet .exit)) (now (work .exit)) ⌝ }
+    ensures { λ r. ⌜ Simulated (record { file = now (file .entry); table = now (table .entry); sheet = now (sheet .entry); pattern = now (pattern .entry); work = now (work .entry) }) r (now (sheet .exit)) (now (work .exit)) ⌝ }
 {
     match block::read(file) {
         ReadAnswer::Refused(r) => CurrentsAnswer::Refused(r),
@@ -143,19 +123,19 @@ pub fn simulate(
             ) {
                 Verdict::Refused(r) => CurrentsAnswer::Refused(r),
                 Verdict::Accepted => {
-                    let currents = evaluate_pattern(
+                    let setting = Setting {
+                        nets: nets as usize,
+                        inputs: inputs as usize,
+                        hops: UNLIMITED,
+                    };
+                    CurrentsAnswer::Found(evaluate_pattern(
                         file,
-                        nets as usize,
-                        inputs as usize,
+                        setting,
                         table,
                         sheet,
                         pattern,
                         work,
-                    );
-                    CurrentsAnswer::Flowing {
-                        drop: currents.drop,
-                        quiet: currents.quiet,
-                    }
+                    ))
                 }
             }
         }

@@ -1,8 +1,9 @@
 -- `envelope::evaluate_frame` meets its contract.
 -- Assumes nothing.
-use mathlib.Core.Path.{refl}
+use Prim.Native.Nat.{ℕ}
+use lib.ListN.{length-replicate}
+use Rattle.envelope.proofs.Frame.{frame-codes, frame-evaluated}
 use borrow.Author.Needs.{needs}
-use Rattle.envelope.proofs.Frame.{frame-given, frame-evaluated}
 use Rattle.envelope.proofs.evaluate_frame.Statement.{statement}
 use Rattle.envelope.proofs.evaluate_frame.Tie as tie
 
@@ -16,7 +17,7 @@ slice-aggregate-evaluate : tie.Need-slice-aggregate-evaluate
 slice-aggregate-evaluate c = search needs
 
 evaluate-requires : tie.Need-evaluate-requires
-evaluate-requires c κs = let s = c .before .before .before .before .before .before .before .before .before .before in frame-given (s .pre .0) refl (c .before .before .before .before .frame-codes .ensures) (s .pre .1) (s .pre .2) (s .pre .3)
+evaluate-requires c κs = let s = c .before .before .before .before .before .before .before .before .before .before in (s .pre, frame-codes (s .args .setting) (s .pre .accepted) (length-replicate {A = ℕ} 64 0) (c .before .before .before .before .frame-codes .ensures))
 
 same-length : tie.Need-same-length
 same-length c = search needs
@@ -25,7 +26,7 @@ same-length-2 : tie.Need-same-length-2
 same-length-2 c = search needs
 
 returns : tie.Need-returns
-returns c = let s = c .before .before .before .before .before .before .before .before .before .before .before .before .before .before .before in frame-evaluated (s .pre .0) refl (c .before .before .before .before .before .before .before .before .before .frame-codes .ensures) (c .before .before .before .before .evaluate .ensures)
+returns c = let s = c .before .before .before .before .before .before .before .before .before .before .before .before .before .before .before in frame-evaluated (s .args .setting) (s .pre .accepted) (length-replicate {A = ℕ} 64 0) (c .before .before .before .before .before .before .before .before .before .frame-codes .ensures) (c .before .before .before .before .evaluate .ensures)
 
 pub evaluate-frame-spec : {M : Type 1} → statement M
 evaluate-frame-spec =

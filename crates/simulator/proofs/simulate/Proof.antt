@@ -1,10 +1,11 @@
 -- `simulator::simulate` meets its contract.
 -- Assumes nothing.
 use mathlib.Core.Path.{sym, _∙_}
-use borrow.Author.Needs.{needs}
+use native.Mathlib.Omega.{arith}
 use Rattle.block.proofs.Verdicts.{both-accepted}
-use Rattle.evaluation.proofs.Operations.{file-accepted}
+use Rattle.operation.proofs.Operations.{file-accepted}
 use Rattle.simulator.proofs.Answers.{sizes-right, file-refused, argument-refused, call-accepted}
+use borrow.Author.Needs.{needs}
 use Rattle.simulator.proofs.simulate.Statement.{statement}
 use Rattle.simulator.proofs.simulate.Tie as tie
 
@@ -28,19 +29,16 @@ enum-told c = search needs
 
 evaluate-pattern-requires : tie.Need-evaluate-pattern-requires
 evaluate-pattern-requires c κs =
-    let told = c .before .before in
-    let file = file-accepted (told .before .before .before .before .before .before .read .ensures) (told .before .before .before .before .nets .given .1) in
-    let both = both-accepted _ _ (sym (told .before .before .check-arguments .ensures) ∙ told .enum-told .given .1) in
+    let file = file-accepted (c .before .before .before .before .before .before .before .before .read .ensures) (c .before .before .before .before .before .before .nets .given .1) in
+    let both = both-accepted _ _ (sym (c .before .before .before .before .check-arguments .ensures) ∙ c .before .before .enum-told .given .1) in
     let right = sizes-right _ _ _ _ _ (both .0) in
-    (file, right .sheet-long, right .pattern-long, record { whole = right .work-long; numbered = file .few-nets })
+    (record { accepted = file; some-hops = omega arith; sheet-long = right .sheet-long; rows = record { whole = right .work-long; numbered = file .few-nets } }, right .pattern-long)
 
 returns : tie.Need-returns
-returns c = file-refused _ _ _ _ _ (c .before .before .before .read .ensures) _ (c .before .r .given .1)
+returns c = file-refused _ (c .before .before .before .read .ensures) _ (c .before .r .given .1)
 
 returns-2 : tie.Need-returns-2
-returns-2 c =
-    let told = c .before .before .before in
-    argument-refused _ _ _ _ _ (told .before .before .before .before .read .ensures) _ _ (told .before .before .nets .given .1) (told .check-arguments .ensures) _ (c .before .r2 .given .1)
+returns-2 c = argument-refused _ (c .before .before .before .before .before .before .before .read .ensures) _ _ (c .before .before .before .before .before .nets .given .1) (c .before .before .before .check-arguments .ensures) _ (c .before .r2 .given .1)
 
 same-length : tie.Need-same-length
 same-length c = search needs
@@ -49,10 +47,7 @@ same-length-2 : tie.Need-same-length-2
 same-length-2 c = search needs
 
 returns-3 : tie.Need-returns-3
-returns-3 c =
-    let told = c .before .before .before .before .before .before .before in
-    call-accepted _ _ _ _ _ (told .before .before .before .before .before .before .read .ensures) _ _ (told .before .before .before .before .nets .given .1)
-    (told .before .before .check-arguments .ensures) _ _ _ (told .enum-told .given .1) (c .before .before .before .before .evaluate-pattern .ensures)
+returns-3 c = call-accepted _ (c .before .before .before .before .before .before .before .before .before .before .before .before .before .read .ensures) _ _ (c .before .before .before .before .before .before .before .before .before .before .before .nets .given .1) (c .before .before .before .before .before .before .before .before .before .check-arguments .ensures) _ _ _ (c .before .before .before .before .before .before .before .enum-told .given .1) (c .before .before .before .before .evaluate-pattern .ensures)
 
 pub simulate-spec : {M : Type 1} → statement M
 simulate-spec =
