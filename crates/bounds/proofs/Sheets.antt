@@ -1,6 +1,6 @@
 -- Laws of the sheet of a search: a case drawn, a sheet raised to another, and the greatest over the cases drawn so far.
 -- Assumes nothing.
-use Prim.Native.Nat.{ℕ, _+_, _*_, _/_, _%_, _<_, max}
+use Prim.Native.Nat.{ℕ, _+_, _*_, _/_, _%_, _≤_, _<_, max}
 use mathlib.Core.Bool.{Bool, true, false}
 use mathlib.Core.List.{List}
 use mathlib.Core.Logic.{inr}
@@ -12,50 +12,47 @@ use Rattle.laws.specs.Below.{maxBelow}
 use Rattle.laws.specs.Rewritten.{Rewritten}
 use Rattle.laws.proofs.Below.{max-next, max-same}
 use Rattle.laws.proofs.Rewritten.{rewritten-next, rewritten-first}
-use Rattle.excitation.specs.Excitation.{l}
 use Rattle.excitation.specs.UncertaintySet.{setsIn}
-use Rattle.excitation.specs.declared.Excitation.{Excitation}
-use Rattle.block.specs.Accepted.{AcceptedFile}
 use Rattle.block.specs.Record.{File}
 use Rattle.current.specs.Current.{Sheet, sheetWords}
 use Rattle.current.specs.Words.{Cleared}
 use Rattle.current.proofs.Sheets.{word-is, sheet-long, sheet-is}
-use Rattle.evaluation.specs.Evaluation.{simulatedSheet, envelopeSheet, Evaluated}
-use Rattle.evaluation.specs.declared.Currents.{Currents}
-use Rattle.simulator.specs.Simulate.{PatternEvaluated}
-use Rattle.cases.specs.Case.{Case, decided, probe, takenOf}
-use Rattle.cases.specs.Records.{casesIn, caseIn}
+use Rattle.operation.specs.declared.Currents.{Currents}
+use Rattle.evaluation.specs.Evaluation.{simulatedSheet, envelopeSheet, sheetFor, Evaluated}
+use Rattle.evaluation.specs.declared.Setting.{Setting}
+use Rattle.simulator.specs.Simulate.{SinglesEvaluated}
+use Rattle.cases.specs.Case.{Case, decided, evaluationOf}
+use Rattle.cases.specs.Records.{casesIn, caseIn, SetCodes}
 use Rattle.cases.specs.Search.{setsAt, casesSheet}
-use Rattle.cases.specs.Store.{patternByte}
-use Rattle.cases.proofs.Cases.{taken-decided, taken-undecided}
+use Rattle.cases.proofs.Cases.{evaluation-decided, evaluation-undecided}
 use Rattle.cases.proofs.Records.{sets-copied, cases-long, sets-at}
+use Rattle.cases.proofs.Singles.{decided-sets}
 use Rattle.bounds.specs.Bounds.{sheetOver}
-use Rattle.bounds.proofs.Making.{probed-is}
 
 -- The sheet of case k of a store.
 abbrev pub sheetOfCase : File → ℕ → ℕ → List ℕ → ℕ → Sheet
-sheetOfCase file hops inputs store k = takenOf (simulatedSheet file) (envelopeSheet hops file) (caseIn inputs store k .sets)
+sheetOfCase file hops inputs store k = evaluationOf (simulatedSheet file) (envelopeSheet hops file) (caseIn inputs store k .sets)
 
 -- A case drawn, from its sets as they were copied from the store: its simulation where every input is decided, else its envelope.
 
-module _ {file : File} {nets inputs : ℕ} (accepted : AcceptedFile file nets inputs) (hops : ℕ) (store : List ℕ) (k : ℕ) {given codes : List ℕ}
-    (copied : Rewritten (λ j. getD store (72 * k + j) 0) 0 64 given codes) {r : Bool} (test : r ≡ decided (setsIn inputs codes)) where
-  case-copied : takenOf (simulatedSheet file) (envelopeSheet hops file) (setsIn inputs codes) ≡ sheetOfCase file hops inputs store k
-  case-copied = ap (takenOf (simulatedSheet file) (envelopeSheet hops file)) (sets-copied inputs (accepted .few-inputs) store k given codes copied)
+module _ (file : File) (setting : Setting) (few : setting .inputs ≤ 64) (store : List ℕ) (k : ℕ) {given codes : List ℕ}
+    (copied : Rewritten (λ j. getD store (72 * k + j) 0) 0 64 given codes) {r : Bool} (test : r ≡ decided (setsIn (setting .inputs) codes)) where
+  case-copied : evaluationOf (simulatedSheet file) (envelopeSheet (setting .hops) file) (setsIn (setting .inputs) codes)
+      ≡ sheetOfCase file (setting .hops) (setting .inputs) store k
+  case-copied = ap (evaluationOf (simulatedSheet file) (envelopeSheet (setting .hops) file)) (sets-copied (setting .inputs) few store k given codes copied)
 
-  pub case-simulated : {blank pattern table sheet : List ℕ} {currents : Currents} → r ≡ true
-      → Rewritten (patternByte (probe (setsIn inputs codes))) 0 inputs blank pattern
-      → PatternEvaluated file table pattern currents sheet → sheet ≡ sheetWords (sheetOfCase file hops inputs store k)
-  case-simulated {blank} {pattern} t written e =
-      e .sheet
-      ∙ ap (λ (p : List Excitation). sheetWords (simulatedSheet file p)) (probed-is file nets inputs accepted codes blank pattern written)
-      ∙ ap sheetWords (sym (taken-decided (simulatedSheet file) (envelopeSheet hops file) (setsIn inputs codes) (sym test ∙ t)) ∙ case-copied)
+  pub case-simulated : {table sheet : List ℕ} {currents : Currents} → r ≡ true → SetCodes (setting .inputs) codes
+      → SinglesEvaluated file setting codes table currents sheet → sheet ≡ sheetWords (sheetOfCase file (setting .hops) (setting .inputs) store k)
+  case-simulated t coded e =
+      let d = sym test ∙ t in
+      e _ (decided-sets (setting .inputs) codes coded d) .written
+      ∙ ap sheetWords (sym (evaluation-decided (simulatedSheet file) (envelopeSheet (setting .hops) file) (setsIn (setting .inputs) codes) d) ∙ case-copied)
 
-  pub case-enveloped : {table sheet : List ℕ} {currents : Currents} → r ≡ false → Evaluated file (setsIn inputs codes) hops table currents sheet
-      → sheet ≡ sheetWords (sheetOfCase file hops inputs store k)
+  pub case-enveloped : {table sheet : List ℕ} {currents : Currents} → r ≡ false → Evaluated file table (sheetFor file setting codes) currents sheet
+      → sheet ≡ sheetWords (sheetOfCase file (setting .hops) (setting .inputs) store k)
   case-enveloped t e =
-      e .sheet
-      ∙ ap sheetWords (sym (taken-undecided (simulatedSheet file) (envelopeSheet hops file) (setsIn inputs codes) (sym test ∙ t)) ∙ case-copied)
+      e .written
+      ∙ ap sheetWords (sym (evaluation-undecided (simulatedSheet file) (envelopeSheet (setting .hops) file) (setsIn (setting .inputs) codes) (sym test ∙ t)) ∙ case-copied)
 
 -- A sheet raised to another, word by word.
 
@@ -88,14 +85,14 @@ module _ (file : File) (hops inputs : ℕ) (store : List ℕ) where
       ∙ ap (λ x. max (sheetBelow k (i / 512) (i % 512)) x) (word-is (sheetOfCase file hops inputs store k) drawn i h)
       ∙ sym (max-next k (λ j. sheetOfCase file hops inputs store j (i / 512) (i % 512))))
 
-  taken-at : (n c t : ℕ) → sheetBelow n c t ≡ sheetOver file hops (casesIn inputs store n) c t
+  evaluation-at : (n c t : ℕ) → sheetBelow n c t ≡ sheetOver file hops (casesIn inputs store n) c t
   unfolding sheetBelow casesSheet
-  taken-at n c t =
-      let taken : Case → ℕ = λ case. takenOf (simulatedSheet file) (envelopeSheet hops file) case c t in
+  evaluation-at n c t =
+      let taken : Case → ℕ = λ case. evaluationOf (simulatedSheet file) (envelopeSheet hops file) case c t in
       max-same n _ _ (λ k l. ap taken (sym (sets-at inputs store n k l)))
       ∙ ap (λ m. maxBelow m (λ k. taken (setsAt (casesIn inputs store n) k))) (sym (cases-long inputs store n))
 
   pub all-drawn : (n : ℕ) {words : List ℕ} → words ≡ sheetWords (sheetBelow n) → words ≡ sheetWords (sheetOver file hops (casesIn inputs store n))
   all-drawn n {words} e =
       sheet-is words (sheetOver file hops (casesIn inputs store n)) (sheet-long (sheetBelow n) e)
-      (λ i h. word-is (sheetBelow n) e i h ∙ taken-at n (i / 512) (i % 512))
+      (λ i h. word-is (sheetBelow n) e i h ∙ evaluation-at n (i / 512) (i % 512))

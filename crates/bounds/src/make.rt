@@ -1,41 +1,32 @@
 // A case made: its probe simulated, its upper number found, and its record written.
 ghost use mathlib.Core.Path.{_≡_};
-ghost use Prim.Native.Nat.{_<_, _^_, min};
+ghost use Prim.Native.Nat.{_<_};
 ghost use lib.ListN.{length};
-ghost use Rattle.excitation.specs.UncertaintySet.{setsIn};
-ghost use Rattle.cases.specs.Case.{probe};
+ghost use Rattle.block.specs.Limits.{dropLimit};
 ghost use Rattle.cases.specs.Records.{HasCase, SetCodes};
-ghost use Rattle.bounds.specs.Bounds.{simulatedDrop, Searchable, Probed, ownUpper, CaseMade};
-use super::Setting;
+ghost use Rattle.evaluation.specs.Evaluation.{Evaluable};
+ghost use Rattle.bounds.specs.Bounds.{probeDrop, upperOf, CaseMade};
 use cases::CaseNumber;
 use cases::sets;
 use cases::store;
 use current::Word;
+use evaluation::Setting;
 
-// The drop of a case's probe, which is left in `pattern`.
+// The drop of a case's probe.
 fn probe_drop(
     file: &[u8],
     setting: Setting,
     table: &[u16],
     codes: &[u8],
-    pattern: &mut [u8],
     sheet: &mut [Word],
     work: &mut [u8],
 ) -> u64
-    requires { ⌜ Searchable (now file) (setting .nets) (setting .inputs) (setting .hops) (now sheet) (now work) × (length (now codes) ≡ 64) × (length (now pattern) ≡ 64) ⌝ }
-    ensures { λ r. ⌜ Probed (now (file .entry)) (setting .inputs) (now (table .entry)) (now (codes .entry)) (now (pattern .entry)) r (now (pattern .exit)) ⌝ }
+    requires { ⌜ Evaluable (now file) setting (now sheet) (now work) × (length (now codes) ≡ 64) ⌝ }
+    ensures { λ r. ⌜ (r ≡ probeDrop (now (file .entry)) setting (now (table .entry)) (now (codes .entry))) × (r < dropLimit) ⌝ }
 {
-    let inputs = setting.inputs;
-    sets::write_probe(codes, inputs, pattern);
-    let currents = simulator::evaluate_pattern(
-        file,
-        setting.nets,
-        inputs,
-        table,
-        sheet,
-        pattern,
-        work,
-    );
+    let mut singles = [0u8; 64];
+    sets::write_probe_codes(codes, setting.inputs, &mut singles);
+    let currents = simulator::evaluate_singles(file, setting, &singles, table, sheet, work);
     currents.drop
 }
 
@@ -49,58 +40,40 @@ fn own_upper(
     sheet: &mut [Word],
     work: &mut [u8],
 ) -> u64
-    requires { ⌜ Searchable (now file) (setting .nets) (setting .inputs) (setting .hops) (now sheet) (now work) × (length (now codes) ≡ 64) × SetCodes (setting .inputs) (now codes) × (drop ≡ simulatedDrop (now file) (now table) (probe (setsIn (setting .inputs) (now codes)))) × (drop < 2 ^ 46) ⌝ }
-    ensures { λ r. ⌜ (r ≡ ownUpper (now (file .entry)) (setting .hops) (now (table .entry)) (setsIn (setting .inputs) (now (codes .entry)))) × (r < 2 ^ 46) ⌝ }
+    requires { ⌜ Evaluable (now file) setting (now sheet) (now work) × (length (now codes) ≡ 64) × SetCodes (setting .inputs) (now codes) × (drop ≡ probeDrop (now file) setting (now table) (now codes)) × (drop < dropLimit) ⌝ }
+    ensures { λ r. ⌜ (r ≡ upperOf (now (file .entry)) setting (now (table .entry)) (now (codes .entry))) × (r < dropLimit) ⌝ }
 {
-    let inputs = setting.inputs;
-    if sets::is_decided(codes, inputs) {
+    if sets::is_decided(codes, setting.inputs) {
         return drop;
     }
-    let currents = evaluation::evaluate(
-        file,
-        setting.nets,
-        inputs,
-        codes,
-        setting.hops,
-        table,
-        sheet,
-        work,
-    );
+    let currents = evaluation::evaluate(file, setting, codes, table, sheet, work);
     currents.drop
 }
 
-// The lesser of two numbers.
-fn lesser(a: u64, b: u64) -> u64
-    ensures { λ r. ⌜ r ≡ min a b ⌝ }
-{
-    if a < b { a } else { b }
-}
-
-// Makes a case: writes its record and, where its probe's drop reaches the goal, its probe. Returns the drop that the next probe has to
-// reach.
+// Makes a case: writes its record and, where its probe's drop reaches the threshold, its probe. Returns the drop that the next probe has
+// to reach.
 pub fn make_case(
     file: &[u8],
     setting: Setting,
     table: &[u16],
     codes: &[u8],
     cap: u64,
-    goal: u64,
+    threshold: u64,
     at: CaseNumber,
     sheet: &mut [Word],
     pattern: &mut [u8],
     work: &mut [u8],
     store: &mut [u8],
 ) -> u64
-    requires { ⌜ Searchable (now file) (setting .nets) (setting .inputs) (setting .hops) (now sheet) (now work) × (length (now codes) ≡ 64) × SetCodes (setting .inputs) (now codes) × (length (now pattern) ≡ 64) × HasCase (now store) (at .0) ⌝ }
-    ensures { λ r. ⌜ CaseMade (now (file .entry)) (setting .inputs) (setting .hops) (now (table .entry)) (now (codes .entry)) cap goal (at .0) (now (store .entry)) (now (pattern .entry)) r (now (store .exit)) (now (pattern .exit)) ⌝ }
+    requires { ⌜ Evaluable (now file) setting (now sheet) (now work) × (length (now codes) ≡ 64) × SetCodes (setting .inputs) (now codes) × (length (now pattern) ≡ 64) × HasCase (now store) (at .0) ⌝ }
+    ensures { λ r. ⌜ CaseMade (now (file .entry)) setting (now (table .entry)) (now (codes .entry)) cap threshold (at .0) (now (store .entry)) (now (pattern .entry)) r (now (store .exit)) (now (pattern .exit)) ⌝ }
 {
-    let mut probe = [0u8; 64];
-    let drop = probe_drop(file, setting, table, codes, &mut probe, sheet, work);
+    let drop = probe_drop(file, setting, table, codes, sheet, work);
     let own = own_upper(file, setting, table, codes, drop, sheet, work);
-    store::write_case(store, at, codes, lesser(cap, own));
-    if drop < goal {
-        return goal;
+    store::write_case(store, at, codes, numbers::min_u64(cap, own));
+    if drop < threshold {
+        return threshold;
     }
-    store::copy(&probe, 0, pattern, 0, setting.inputs);
+    sets::write_probe(codes, setting.inputs, pattern);
     drop + 1
 }

@@ -4,22 +4,15 @@ ghost use Prim.Native.Nat.{_*_, max};
 ghost use lib.ListN.{length, getD, drop};
 ghost use Rattle.laws.specs.Rewritten.{Rewritten};
 ghost use Rattle.current.specs.Current.{sheetWords};
-ghost use Rattle.cases.specs.Case.{takenOf};
+ghost use Rattle.cases.specs.Case.{evaluationOf};
 ghost use Rattle.cases.specs.Records.{casesIn, caseIn, HasCases, HasCase, SetCodes};
-ghost use Rattle.evaluation.specs.Evaluation.{simulatedSheet, envelopeSheet};
-ghost use Rattle.bounds.specs.Bounds.{sheetOver, Searchable};
-use super::Setting;
+ghost use Rattle.evaluation.specs.Evaluation.{simulatedSheet, envelopeSheet, Evaluable};
+ghost use Rattle.bounds.specs.Bounds.{sheetOver};
 use cases::CaseNumber;
 use cases::sets;
 use cases::store;
 use current::Word;
-
-// The greater of two words.
-fn greater(a: Word, b: Word) -> Word
-    ensures { λ r. ⌜ r ≡ max a b ⌝ }
-{
-    if a < b { b } else { a }
-}
+use evaluation::Setting;
 
 // Raises each word of a sheet to that of another.
 fn raise(sheet: &mut [Word], other: &[Word])
@@ -28,7 +21,7 @@ fn raise(sheet: &mut [Word], other: &[Word])
 {
     let mut i: usize = 0;
     while i < 8192 {
-        sheet[i] = greater(sheet[i], other[i]);
+        sheet[i] = numbers::max_u32(sheet[i], other[i]);
         i += 1;
     }
 }
@@ -43,28 +36,16 @@ fn draw_case(
     sheet: &mut [Word],
     work: &mut [u8],
 )
-    requires { ⌜ Searchable (now file) (setting .nets) (setting .inputs) (setting .hops) (now sheet) (now work) × HasCase (now store) (k .0) × SetCodes (setting .inputs) (drop (72 * k .0) (now store)) ⌝ }
-    ensures { λ _. ⌜ now (sheet .exit) ≡ sheetWords (takenOf (simulatedSheet (now (file .entry))) (envelopeSheet (setting .hops) (now (file .entry))) (caseIn (setting .inputs) (now (store .entry)) (k .0) .sets)) ⌝ }
+    requires { ⌜ Evaluable (now file) setting (now sheet) (now work) × HasCase (now store) (k .0) × SetCodes (setting .inputs) (drop (72 * k .0) (now store)) ⌝ }
+    ensures { λ _. ⌜ now (sheet .exit) ≡ sheetWords (evaluationOf (simulatedSheet (now (file .entry))) (envelopeSheet (setting .hops) (now (file .entry))) (caseIn (setting .inputs) (now (store .entry)) (k .0) .sets)) ⌝ }
 {
-    let inputs = setting.inputs;
     let mut codes = [0u8; 64];
     store::read_sets(store, k, &mut codes);
-    if sets::is_decided(&codes, inputs) {
-        let mut pattern = [0u8; 64];
-        sets::write_probe(&codes, inputs, &mut pattern);
-        simulator::evaluate_pattern(file, setting.nets, inputs, table, sheet, &pattern, work);
+    if sets::is_decided(&codes, setting.inputs) {
+        simulator::evaluate_singles(file, setting, &codes, table, sheet, work);
         return;
     }
-    evaluation::evaluate(
-        file,
-        setting.nets,
-        inputs,
-        &codes,
-        setting.hops,
-        table,
-        sheet,
-        work,
-    );
+    evaluation::evaluate(file, setting, &codes, table, sheet, work);
 }
 
 // Draws the sheet over the first n cases.
@@ -77,7 +58,7 @@ pub fn draw_cases(
     sheet: &mut [Word],
     work: &mut [u8],
 )
-    requires { ⌜ Searchable (now file) (setting .nets) (setting .inputs) (setting .hops) (now sheet) (now work) × HasCases (setting .inputs) (now store) n ⌝ }
+    requires { ⌜ Evaluable (now file) setting (now sheet) (now work) × HasCases (setting .inputs) (now store) n ⌝ }
     ensures { λ _. ⌜ now (sheet .exit) ≡ sheetWords (sheetOver (now (file .entry)) (setting .hops) (casesIn (setting .inputs) (now (store .entry)) n)) ⌝ }
 {
     let mut one: [Word; 8192] = [0; 8192];

@@ -1,4 +1,4 @@
--- Laws of cases: their patterns, probes and children, and what is taken of them.
+-- Laws of cases: their patterns, probes and children, and their evaluations.
 -- Assumes nothing.
 use Prim.Native.Nat.{ℕ, zero, suc, _<_}
 use mathlib.Core.Bool.{Bool, true, false, not, _||_, false≢true}
@@ -19,10 +19,10 @@ use Rattle.excitation.specs.UncertaintySet.{UncertaintySet, member, _∈_, empt
 use Rattle.excitation.specs.declared.Excitation.{Excitation}
 use Rattle.excitation.proofs.Bytes.{byte-low, byte-back}
 use Rattle.excitation.proofs.Finite.{for-each, at-members}
-use Rattle.excitation.proofs.OneMember.{in-single, of-single}
+use Rattle.excitation.proofs.OneMember.{in-single, of-single, single-is}
 use Rattle.excitation.proofs.Sets.{same-gives}
 use Rattle.block.specs.Block.{Choice}
-use Rattle.cases.specs.Case.{Case, undecided, decided, firstAllowed, probe, takenOf, membersBelow, childrenBelow, children}
+use Rattle.cases.specs.Case.{Case, undecided, decided, firstAllowed, probe, evaluationOf, membersBelow, childrenBelow, children}
 
 -- Sets
 
@@ -36,6 +36,10 @@ first-only : (s : UncertaintySet) (e : Excitation) → undecided s ≡ false →
 unfolding firstAllowed member undecided size
 first-only s e d m =
     same-gives e (firstAllowed s) (rw d at (at-members (λ s e. undecided s || same e (firstAllowed s)) refl refl refl refl s e m))
+
+-- So it is the set of that one.
+pub decided-single : (s : UncertaintySet) (e : Excitation) → undecided s ≡ false → e ∈ s → s ≡ single (firstAllowed s)
+decided-single s e d m = single-is s (firstAllowed s) (first-member s e m) (λ x n. first-only s x d n)
 
 first-single : (e : Excitation) → firstAllowed (single e) ≡ e
 unfolding firstAllowed member
@@ -142,25 +146,25 @@ decided-probe pattern case d choice =
     (pairs-in _∈_ choice (firstAllowed empty) empty k h)
     ∙ sym (List·getD-map firstAllowed case k empty))
 
--- What is taken of a case
+-- The evaluation of a case
 
 module _ {A : Type 0} (simulated : List Excitation → A) (enveloped : Case → A) where
-  pub taken-decided : (case : Case) → decided case ≡ true → takenOf simulated enveloped case ≡ simulated (probe case)
-  unfolding takenOf
-  taken-decided case d = rw (d, takenOf) refl
+  pub evaluation-decided : (case : Case) → decided case ≡ true → evaluationOf simulated enveloped case ≡ simulated (probe case)
+  unfolding evaluationOf
+  evaluation-decided case d = rw (d, evaluationOf) refl
 
-  pub taken-undecided : (case : Case) → decided case ≡ false → takenOf simulated enveloped case ≡ enveloped case
-  unfolding takenOf
-  taken-undecided case d = rw (d, takenOf) refl
+  pub evaluation-undecided : (case : Case) → decided case ≡ false → evaluationOf simulated enveloped case ≡ enveloped case
+  unfolding evaluationOf
+  evaluation-undecided case d = rw (d, evaluationOf) refl
 
   -- What holds of a pattern's simulation and of the envelope of a case that has it holds of what is taken.
-  pub taken-holds : (P : A → Type 0) (pattern : List Excitation) (case : Case) → Choice pattern case → P (simulated pattern)
-      → P (enveloped case) → P (takenOf simulated enveloped case)
-  unfolding takenOf
-  taken-holds P pattern case choice here over =
+  pub evaluation-holds : (P : A → Type 0) (pattern : List Excitation) (case : Case) → Choice pattern case → P (simulated pattern)
+      → P (enveloped case) → P (evaluationOf simulated enveloped case)
+  unfolding evaluationOf
+  evaluation-holds P pattern case choice here over =
       cases (decided case)
-      (λ d. rw (d, takenOf) (subst (λ x. P (simulated x)) (decided-probe pattern case d choice) here))
-      (λ d. rw (d, takenOf) over)
+      (λ d. rw (d, evaluationOf) (subst (λ x. P (simulated x)) (decided-probe pattern case d choice) here))
+      (λ d. rw (d, evaluationOf) over)
 
 -- Undecided inputs
 

@@ -7,7 +7,7 @@ use mathlib.Core.Path.{_≡_, refl, ap, sym, _∙_}
 use native.Mathlib.Omega.{arith}
 use lib.Dec.{eqb, ltb}
 use lib.ListN.{length, getD, length-map}
-use Rattle.laws.specs.Below.{allBelow, digit}
+use Rattle.laws.specs.Below.{allBelow, indicator}
 use Rattle.laws.specs.Rewritten.{Rewritten}
 use Rattle.laws.proofs.Below.{all-same, all-fails}
 use Rattle.laws.proofs.Rewritten.{rewritten-first}
@@ -19,20 +19,20 @@ use Rattle.excitation.proofs.Codes.{set-at, sets-long}
 use Rattle.cases.specs.Store.{patternByte}
 use Rattle.cases.specs.Case.{undecided, decided, firstAllowed, probe}
 
-digit-of : (bit : ℕ) → bit < 2 → digit (eqb bit 1) ≡ bit
-digit-of zero h = refl
-digit-of (suc zero) h = refl
-digit-of (suc (suc n)) h = absurd (omega arith)
+indicator-of : (bit : ℕ) → bit < 2 → indicator (eqb bit 1) ≡ bit
+indicator-of zero h = refl
+indicator-of (suc zero) h = refl
+indicator-of (suc (suc n)) h = absurd (omega arith)
 
 -- How many members a coded set has: how many of its low four bits are 1.
 size-code : (n : ℕ) → size (decode n) ≡ n % 2 + n / 2 % 2 + n / 4 % 2 + n / 8 % 2
 unfolding size decode
 size-code n =
     rw (
-      digit-of (n % 2) (omega arith),
-      digit-of (n / 2 % 2) (omega arith),
-      digit-of (n / 4 % 2) (omega arith),
-      digit-of (n / 8 % 2) (omega arith),
+      indicator-of (n % 2) (omega arith),
+      indicator-of (n / 2 % 2) (omega arith),
+      indicator-of (n / 4 % 2) (omega arith),
+      indicator-of (n / 8 % 2) (omega arith),
     )
     refl
 

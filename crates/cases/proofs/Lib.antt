@@ -1,4 +1,5 @@
 pub mod Codes
+pub mod Singles
 pub mod Cones
 pub mod Numbers
 pub mod Records

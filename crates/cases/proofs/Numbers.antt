@@ -33,18 +33,18 @@ number-same bytes others at from same =
     )
     refl
 
-number-is : (u : ℕ) → u < 2 ^ 46
+number-is : (u : ℕ) → u < 2 ^ 64
     → u % 256 + 256 * (u / 256 % 256 + 256 * (u / 256 / 256 % 256 + 256 * (u / 256 / 256 / 256 % 256
     + 256 * (u / 256 / 256 / 256 / 256 % 256 + 256 * (u / 256 / 256 / 256 / 256 / 256 % 256
     + 256 * (u / 256 / 256 / 256 / 256 / 256 / 256 % 256 + 256 * (u / 256 / 256 / 256 / 256 / 256 / 256 / 256 % 256))))))) ≡ u
 number-is u h = omega arith
 
-of-bytes : (u : ℕ) → u < 2 ^ 46 → numberAt (numberBytes 8 u) 0 ≡ u
+of-bytes : (u : ℕ) → u < 2 ^ 64 → numberAt (numberBytes 8 u) 0 ≡ u
 unfolding numberAt numberBytes
 of-bytes u h = number-is u h
 
 -- The 8 bytes of a number hold it.
-pub number-at : (bytes : List ℕ) (at number : ℕ) → number < 2 ^ 46 → ((j : ℕ) → j < 8 → getD bytes (at + j) 0 ≡ getD (numberBytes 8 number) j 0)
+pub number-at : (bytes : List ℕ) (at number : ℕ) → number < 2 ^ 64 → ((j : ℕ) → j < 8 → getD bytes (at + j) 0 ≡ getD (numberBytes 8 number) j 0)
     → numberAt bytes at ≡ number
 number-at bytes at number low same =
     number-same bytes (numberBytes 8 number) at 0 (λ j l. let e : j ≡ 0 + j = omega arith in same j l ∙ ap (λ i. getD (numberBytes 8 number) i 0) e)

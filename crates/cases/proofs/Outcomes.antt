@@ -12,8 +12,8 @@ use borrow.Table.Steps.{cases}
 use Rattle.excitation.specs.declared.Excitation.{Excitation}
 use Rattle.cases.specs.Case.{Case}
 use Rattle.cases.specs.Search.{State, SearchEnd, greatestUpper, outcomeOf, outcomeAt, split, searchFrom}
-use Rattle.cases.specs.declared.Outcome.{Outcome}
-use Rattle.cases.specs.declared.Outcome.the-variants.{Exact, Within, Spent}
+use Rattle.operation.specs.declared.Outcome.{Outcome}
+use Rattle.operation.specs.declared.Outcome.the-variants.{Exact, Within, Spent}
 
 module _ (ratio upper lower : ℕ) where
   abbrev said : Outcome

@@ -1,22 +1,23 @@
 -- Laws of the record of a case: how the code writes it, sets first and then the upper number; once it is written the store has that case
 -- there, and the others as they were.
 -- Assumes nothing.
-use Prim.Native.Nat.{ℕ, _+_, _*_, _≤_, _<_, _^_}
+use Prim.Native.Nat.{ℕ, _+_, _*_, _≤_, _<_}
 use mathlib.Core.List.{List, [], _∷_, _++_}
 use mathlib.Core.Path.{_≡_, refl, ap, sym, subst, _∙_}
 use native.Mathlib.Nat.{zero-add}
 use native.Mathlib.Omega.{arith}
 use lib.ListN.{length, getD, drop, set, length-set, List·getD-append}
 use lib.Seq.{getD-drop, getD-append-add, getD-set-same, getD-set-other}
-use Rattle.laws.specs.Below.{maxBelow, firstGreatest}
+use Rattle.laws.specs.Below.{maxBelow, argmax}
 use Rattle.laws.specs.Rewritten.{Rewritten}
 use Rattle.laws.specs.Turn.{listBelow}
-use Rattle.laws.proofs.Below.{max-same, first-greatest-is, first-greatest-same}
+use Rattle.laws.proofs.Below.{max-same, argmax-is, argmax-same}
 use Rattle.laws.proofs.Numbers.{of-each, outside-record}
 use Rattle.laws.proofs.Rewritten.{rewritten-first, rewritten-same, rewritten-append}
 use Rattle.laws.proofs.Turn.{list-at, list-long, list-next, list-is, list-same}
 use Rattle.excitation.specs.UncertaintySet.{setsIn}
 use Rattle.excitation.proofs.Codes.{sets-same}
+use Rattle.block.specs.Limits.{dropLimit}
 use Rattle.cases.specs.Case.{Case}
 use Rattle.cases.specs.Search.{StoredCase, noCase, upperAt, setsAt, greatestUpper, nextSplit}
 use Rattle.cases.specs.Store.{numberBytes}
@@ -85,8 +86,8 @@ module _ (inputs : ℕ) (few : inputs ≤ 64) (codes : List ℕ) (long : length 
 
   -- The case that is written, and another.
 
-  upper-here : upper < 2 ^ 46 → upperIn after at ≡ upper
-  upper-here low = number-at after (72 * at + 64) upper low number-byte
+  upper-here : upper < dropLimit → upperIn after at ≡ upper
+  upper-here low = number-at after (72 * at + 64) upper (omega arith) number-byte
 
   upper-byte-other : (k : ℕ) → (k ≡ at → ⊥) → (j : ℕ) → j < 8 → getD after (72 * k + 64 + j) 0 ≡ getD store (72 * k + 64 + j) 0
   upper-byte-other k n j h =
@@ -102,7 +103,7 @@ module _ (inputs : ℕ) (few : inputs ≤ 64) (codes : List ℕ) (long : length 
   code-other : (k : ℕ) → (k ≡ at → ⊥) → (j : ℕ) → j < 64 → getD (drop (72 * k) store) j 0 ≡ getD (drop (72 * k) after) j 0
   code-other k n j h = getD-drop (72 * k) store j 0 ∙ sym (getD-drop (72 * k) after j 0 ∙ other-byte k j n (omega arith))
 
-  case-here : upper < 2 ^ 46 → caseIn inputs after at ≡ caseOf inputs codes upper
+  case-here : upper < dropLimit → caseIn inputs after at ≡ caseOf inputs codes upper
   case-here low = case-is (sym (sets-same inputs _ _ (λ net h. code-here net (omega arith)))) (upper-here low)
 
   case-other : (k : ℕ) → (k ≡ at → ⊥) → caseIn inputs after k ≡ caseIn inputs store k
@@ -110,7 +111,7 @@ module _ (inputs : ℕ) (few : inputs ≤ 64) (codes : List ℕ) (long : length 
 
   -- The cases that the store has once a record is written in the place of another, or after the last.
 
-  pub cases-replaced : (n : ℕ) → upper < 2 ^ 46 → at < n → casesIn inputs after n ≡ set (casesIn inputs store n) at (caseOf inputs codes upper)
+  pub cases-replaced : (n : ℕ) → upper < dropLimit → at < n → casesIn inputs after n ≡ set (casesIn inputs store n) at (caseOf inputs codes upper)
   unfolding casesIn
   cases-replaced n low inside =
       let new = caseOf inputs codes upper in
@@ -121,7 +122,7 @@ module _ (inputs : ℕ) (few : inputs ≤ 64) (codes : List ℕ) (long : length 
       (λ h. getD-set-same before at new noCase (omega (arith, list-long n (caseIn inputs store))) ∙ sym (case-here low))
       (λ k m h. getD-set-other before at k new noCase m ∙ list-at n (caseIn inputs store) k noCase h ∙ sym (case-other k m))))
 
-  pub cases-appended : (n : ℕ) → upper < 2 ^ 46 → at ≡ n → casesIn inputs after (n + 1) ≡ casesIn inputs store n ++ (caseOf inputs codes upper ∷ [])
+  pub cases-appended : (n : ℕ) → upper < dropLimit → at ≡ n → casesIn inputs after (n + 1) ≡ casesIn inputs store n ++ (caseOf inputs codes upper ∷ [])
   unfolding casesIn
   cases-appended n low last =
       let new = caseOf inputs codes upper in
@@ -132,7 +133,7 @@ module _ (inputs : ℕ) (few : inputs ≤ 64) (codes : List ℕ) (long : length 
       (list-same n (caseIn inputs after) (caseIn inputs store) noCase (λ k h. case-other k (λ e. omega arith)))
 
   -- Once a record is written, the store's first m records are those of cases, where all but this one were.
-  has-written : (n m : ℕ) → SetCodes inputs codes → upper < 2 ^ 46 → HasCases inputs store n → 72 * m ≤ length store → m ≤ 30001
+  has-written : (n m : ℕ) → SetCodes inputs codes → upper < dropLimit → HasCases inputs store n → 72 * m ≤ length store → m ≤ 30001
       → ((k : ℕ) → k < m → (k ≡ at → ⊥) → k < n) → HasCases inputs after m
   has-written n m coded low has room numbered others = record {
     whole = omega (arith, written .long);
@@ -140,7 +141,7 @@ module _ (inputs : ℕ) (few : inputs ≤ 64) (codes : List ℕ) (long : length 
     codes = of-each (λ k. k < m → SetCodes inputs (drop (72 * k) after)) at
         (λ h. codes-same inputs _ _ few code-here coded)
         (λ k d h. codes-same inputs _ _ few (code-other k d) (has .codes k (others k h d)));
-    upper-low = of-each (λ k. k < m → upperIn after k < 2 ^ 46) at
+    upper-low = of-each (λ k. k < m → upperIn after k < dropLimit) at
         (λ h. rw (upper-here low) low)
         (λ k d h. rw (upper-other k d) (has .upper-low k (others k h d)));
     upper-bytes = of-each (λ k. k < m → (j : ℕ) → j < 8 → getD after (72 * k + 64 + j) 0 ≡ getD (numberBytes 8 (upperIn after k)) j 0) at
@@ -148,10 +149,10 @@ module _ (inputs : ℕ) (few : inputs ≤ 64) (codes : List ℕ) (long : length 
         (λ k d h j l. upper-byte-other k d j l ∙ has .upper-bytes k (others k h d) j l ∙ ap (λ u. getD (numberBytes 8 u) j 0) (sym (upper-other k d)));
   }
 
-  pub has-replaced : (n : ℕ) → SetCodes inputs codes → upper < 2 ^ 46 → HasCases inputs store n → HasCases inputs after n
+  pub has-replaced : (n : ℕ) → SetCodes inputs codes → upper < dropLimit → HasCases inputs store n → HasCases inputs after n
   has-replaced n coded low has = has-written n n coded low has (has .whole) (has .few) (λ k h d. h)
 
-  pub has-appended : (n : ℕ) → SetCodes inputs codes → upper < 2 ^ 46 → HasCases inputs store n → at ≡ n → 72 * (n + 1) ≤ length store
+  pub has-appended : (n : ℕ) → SetCodes inputs codes → upper < dropLimit → HasCases inputs store n → at ≡ n → 72 * (n + 1) ≤ length store
       → n + 1 ≤ 30001 → HasCases inputs after (n + 1)
   has-appended n coded low has last room numbered =
       has-written n (n + 1) coded low has room numbered (λ k h d. let e : k ≡ n → ⊥ = λ q. d (q ∙ sym last) in omega arith)
@@ -192,11 +193,11 @@ module _ (inputs : ℕ) (store : List ℕ) (n : ℕ) where
   unfolding upperAt
   upper-at k h = ap (λ x. x .upper) (case-at k h)
 
-  pub next-split : nextSplit (casesIn inputs store n) ≡ firstGreatest n (upperIn store)
+  pub next-split : nextSplit (casesIn inputs store n) ≡ argmax n (upperIn store)
   unfolding nextSplit
-  next-split = ap (λ m. firstGreatest m (upperAt (casesIn inputs store n))) cases-long ∙ first-greatest-same n _ _ upper-at
+  next-split = ap (λ m. argmax m (upperAt (casesIn inputs store n))) cases-long ∙ argmax-same n _ _ upper-at
 
-  pub greatest-upper : 1 ≤ n → greatestUpper (casesIn inputs store n) ≡ upperIn store (firstGreatest n (upperIn store))
+  pub greatest-upper : 1 ≤ n → greatestUpper (casesIn inputs store n) ≡ upperIn store (argmax n (upperIn store))
   unfolding greatestUpper
   greatest-upper some =
-      ap (λ m. maxBelow m (upperAt (casesIn inputs store n))) cases-long ∙ max-same n _ _ upper-at ∙ sym (first-greatest-is n (upperIn store) some)
+      ap (λ m. maxBelow m (upperAt (casesIn inputs store n))) cases-long ∙ max-same n _ _ upper-at ∙ sym (argmax-is n (upperIn store) some)

@@ -13,15 +13,16 @@ use lib.ListN.{length, getD, length-map}
 use borrow.Author.Tests.{ltb-true, ltb-false, eq-eqb}
 use borrow.Table.Steps.{cases}
 use Rattle.laws.proofs.Below.{max-at}
-use Rattle.excitation.specs.UncertaintySet.{empty}
+use Rattle.laws.proofs.Pairs.{pairs-long}
+use Rattle.excitation.specs.UncertaintySet.{_∈_, empty}
 use Rattle.excitation.specs.declared.Excitation.{Excitation}
 use Rattle.block.specs.Block.{Choice, choiceCount}
-use Rattle.cases.specs.Case.{Case, undecided, decided, probe, takenOf, children}
+use Rattle.cases.specs.Case.{Case, undecided, decided, probe, evaluationOf, children}
 use Rattle.cases.specs.Search.{StoredCase, noCase, setsAt, greatestUpper, nextSplit, placed, Best, State, SearchEnd, outcomeOf, better, bestOf, firstBest, madeUnder, firstState, nextChildren, split, outcomeAt, searchFrom, search, casesSheet}
-use Rattle.cases.specs.Promise.{Bounds, Chooses, Covered, Right}
-use Rattle.cases.specs.declared.Outcome.{Outcome}
-use Rattle.cases.specs.declared.Outcome.the-variants.{Exact, Within, Spent}
-use Rattle.cases.proofs.Cases.{child-filled, child-inside, child-covers, taken-decided, taken-holds, undecided-inside}
+use Rattle.cases.specs.Promise.{UpperBound, Chooses, Covered, Right}
+use Rattle.operation.specs.declared.Outcome.{Outcome}
+use Rattle.operation.specs.declared.Outcome.the-variants.{Exact, Within, Spent}
+use Rattle.cases.proofs.Cases.{child-filled, child-inside, child-covers, evaluation-decided, evaluation-holds, undecided-inside}
 use Rattle.cases.proofs.Splits.{member-at, placed-from, placed-new, placed-kept, covered-by, covering, upper-below, next-inside, next-upper, next-member}
 use Rattle.cases.proofs.Counts.{sumOver, sum-more, some-choice, two-choices, children-sum, children-long, storedChoices, made-choices, placed-choices, placed-long}
 
@@ -99,20 +100,20 @@ module _ (simulated : List Excitation → ℕ) where
       best-reached frame rest (better simulated best case) (better-reached frame best case reached (chosen case (List·Memᴰ·head refl)))
       (λ x m. chosen x (List·Memᴰ·tail m))
 
-module _ (simulated : List Excitation → ℕ) (bound choose : Case → ℕ) (frame : Case) (bounds : Bounds simulated bound) (chooses : Chooses choose) where
-  taken-above : (pattern : List Excitation) (case : Case) → Choice pattern case → simulated pattern ≤ takenOf simulated bound case
-  taken-above pattern case choice =
-      taken-holds simulated bound (λ taken. simulated pattern ≤ taken) pattern case choice (le-refl _) (bounds pattern case choice)
+module _ (simulated : List Excitation → ℕ) (bound choose : Case → ℕ) (frame : Case) (bounds : UpperBound simulated bound) (chooses : Chooses (length frame) choose) where
+  evaluation-above : (pattern : List Excitation) (case : Case) → Choice pattern case → simulated pattern ≤ evaluationOf simulated bound case
+  evaluation-above pattern case choice =
+      evaluation-holds simulated bound (λ taken. simulated pattern ≤ taken) pattern case choice (le-refl _) (bounds pattern case choice)
 
   -- Where a search starts.
   first-standing : Choice (probe frame) frame → Standing simulated frame 0 (firstState simulated bound frame)
   unfolding firstState firstBest setsAt storedChoices sumOver
   first-standing filled = record {
     known = λ {x} m. subst (CaseKnown simulated frame (simulated (probe frame))) (sym (List·Memᴰ·eq-of-singleton m)) (record {
-      above = λ {pattern} choice. taken-above pattern frame choice;
+      above = λ {pattern} choice. evaluation-above pattern frame choice;
       inside = λ choice. choice;
       filled = filled;
-      tight = λ d. rw (taken-decided simulated bound frame d) (le-refl _);
+      tight = λ d. rw (evaluation-decided simulated bound frame d) (le-refl _);
     });
     covered = λ choice. record { number = 0; inside = omega arith; choice = choice };
     best = record { chosen = filled; reached = refl };
@@ -137,6 +138,11 @@ module _ (simulated : List Excitation → ℕ) (bound choose : Case → ℕ) (fr
 
     parent-known : CaseKnown simulated frame (state .best .lower) (getD (state .cases) next noCase)
     parent-known = standing .known (next-member (state .cases) not-empty)
+
+    -- Every case in the store has as many inputs as the frame: its probe is one of its patterns, and those are the frame's.
+    parent-long : length parent ≡ length frame
+    unfolding setsAt
+    parent-long = sym (pairs-long _∈_ (parent-known .filled)) ∙ pairs-long _∈_ (parent-known .inside (parent-known .filled))
 
     -- Where U and L are apart some input of the case to split is undecided.
     parent-undecided : (greatestUpper (state .cases) ≡ state .best .lower → ⊥) → decided parent ≡ false
@@ -166,7 +172,7 @@ module _ (simulated : List Excitation → ℕ) (bound choose : Case → ℕ) (fr
       input = choose parent
 
       undecided-there : undecided (getD parent input empty) ≡ true
-      undecided-there = chooses parent not-decided
+      undecided-there = chooses parent parent-long not-decided
 
       abbrev new : List Case
       new = children input parent
@@ -195,11 +201,11 @@ module _ (simulated : List Excitation → ℕ) (bound choose : Case → ℕ) (fr
           arith,
           parent-known .above (child-inside input parent m choice),
           next-upper (state .cases) not-empty,
-          taken-above pattern child choice,
+          evaluation-above pattern child choice,
         );
         inside = λ choice. parent-known .inside (child-inside input parent m choice);
         filled = child-filled input parent m (parent-known .filled);
-        tight = λ d. omega (arith, best-probed simulated new (state .best) m, taken-decided simulated bound child d);
+        tight = λ d. omega (arith, best-probed simulated new (state .best) m, evaluation-decided simulated bound child d);
       }
 
       made-known : {x : StoredCase} → List·Memᴰ x made → CaseKnown simulated frame (after .lower) x
@@ -281,8 +287,8 @@ module _ (simulated : List Excitation → ℕ) (bound choose : Case → ℕ) (fr
             let same : suc splits + left ≡ splits + suc left = omega arith in
             rw (e, searchFrom) (subst (λ budget. Right simulated ratio budget frame after) same (rest (split-standing splits state standing not-decided)))
 
-pub search-right : (simulated : List Excitation → ℕ) (bound choose : Case → ℕ) (ratio budget : ℕ) (frame : Case) → Bounds simulated bound
-    → Chooses choose → Choice (probe frame) frame → Right simulated ratio budget frame (search simulated bound choose ratio budget frame)
+pub search-right : (simulated : List Excitation → ℕ) (bound choose : Case → ℕ) (ratio budget : ℕ) (frame : Case) → UpperBound simulated bound
+    → Chooses (length frame) choose → Choice (probe frame) frame → Right simulated ratio budget frame (search simulated bound choose ratio budget frame)
 unfolding search
 search-right simulated bound choose ratio budget frame bounds chooses filled =
     let right = from-right simulated bound choose frame bounds chooses ratio budget 0 (firstState simulated bound frame)
@@ -298,6 +304,6 @@ unfolding casesSheet
 sheet-above simulated enveloped promise pattern cases covered c t =
     let case = setsAt cases (covered .number) in
     le-trans
-    (taken-holds simulated enveloped (λ taken. simulated pattern c t ≤ taken c t) pattern case (covered .choice) (le-refl _)
+    (evaluation-holds simulated enveloped (λ taken. simulated pattern c t ≤ taken c t) pattern case (covered .choice) (le-refl _)
     (promise pattern case (covered .choice) c t))
-    (max-at (length cases) (λ k. takenOf simulated enveloped (setsAt cases k) c t) (covered .number) (covered .inside))
+    (max-at (length cases) (λ k. evaluationOf simulated enveloped (setsAt cases k) c t) (covered .number) (covered .inside))

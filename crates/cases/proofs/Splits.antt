@@ -6,7 +6,7 @@ use mathlib.Core.Logic.{_⊎_, inl, inr, ⊎-elim}
 use mathlib.Core.Path.{_≡_, refl, sym, subst}
 use native.Mathlib.Omega.{arith}
 use lib.ListN.{length, getD, set}
-use Rattle.laws.proofs.Below.{max-at, first-greatest-inside, first-greatest-is}
+use Rattle.laws.proofs.Below.{max-at, argmax-inside, argmax-is}
 use Rattle.excitation.specs.declared.Excitation.{Excitation}
 use Rattle.block.specs.Block.{Choice}
 use Rattle.cases.specs.Search.{StoredCase, noCase, upperAt, setsAt, greatestUpper, nextSplit, placed}
@@ -91,11 +91,11 @@ upper-below cases m =
 
 pub next-inside : (cases : List StoredCase) → 1 ≤ length cases → nextSplit cases < length cases
 unfolding nextSplit
-next-inside cases h = first-greatest-inside (length cases) (upperAt cases) h
+next-inside cases h = argmax-inside (length cases) (upperAt cases) h
 
 pub next-upper : (cases : List StoredCase) → 1 ≤ length cases → getD cases (nextSplit cases) noCase .upper ≡ greatestUpper cases
 unfolding nextSplit greatestUpper upperAt
-next-upper cases h = first-greatest-is (length cases) (upperAt cases) h
+next-upper cases h = argmax-is (length cases) (upperAt cases) h
 
 pub next-member : (cases : List StoredCase) → 1 ≤ length cases → List·Memᴰ (getD cases (nextSplit cases) noCase) cases
 next-member cases h = member-at cases (nextSplit cases) noCase (next-inside cases h)

@@ -28,9 +28,9 @@ firstAllowed s = cond (member lh s) lh (cond (member hl s) hl (cond (member h s)
 unfoldable pub probe : Case → List Excitation
 probe case = map firstAllowed case
 
--- What is taken of a case: where every input is decided, what the simulation of its one pattern gives; else what its envelope gives.
-unfoldable pub takenOf : {A : Type 0} → (List Excitation → A) → (Case → A) → Case → A
-takenOf simulated enveloped case = elim (decided case) [ true ↦ simulated (probe case) | false ↦ enveloped case ]
+-- The evaluation of a case: where every input is decided, what the simulation of its one pattern gives; else what its envelope gives.
+unfoldable pub evaluationOf : {A : Type 0} → (List Excitation → A) → (Case → A) → Case → A
+evaluationOf simulated enveloped case = elim (decided case) [ true ↦ simulated (probe case) | false ↦ enveloped case ]
 
 -- The excitations that a set allows, of the first n of l, h, hl, lh.
 unfoldable pub membersBelow : ℕ → UncertaintySet → List Excitation

@@ -3,7 +3,7 @@ use Prim.Native.Nat.{ℕ, suc}
 use mathlib.Core.Bool.{cond}
 use mathlib.Core.List.{List}
 use lib.ListN.{length, getD}
-use Rattle.laws.specs.Below.{firstGreatest}
+use Rattle.laws.specs.Below.{argmax}
 use Rattle.laws.specs.Turn.{listBelow}
 use Rattle.excitation.specs.UncertaintySet.{UncertaintySet, empty}
 use Rattle.block.specs.Block.{inputCount, coneSize}
@@ -24,4 +24,4 @@ rank cones case input = rankOf (getD case input empty) (getD cones input 0)
 
 -- The undecided input of a case with most gates in its fan-out cone, lowest net on a tie.
 unfoldable pub chosenInput : List ℕ → Case → ℕ
-chosenInput cones case = firstGreatest (length case) (rank cones case)
+chosenInput cones case = argmax (length case) (rank cones case)

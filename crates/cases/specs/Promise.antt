@@ -9,15 +9,16 @@ use Rattle.excitation.specs.declared.Excitation.{Excitation}
 use Rattle.block.specs.Block.{Choice, choiceCount}
 use Rattle.cases.specs.Case.{Case, undecided, decided}
 use Rattle.cases.specs.Search.{StoredCase, SearchEnd, setsAt, greatestUpper, outcomeOf}
-use Rattle.cases.specs.declared.Outcome.the-variants.{Spent}
+use Rattle.operation.specs.declared.Outcome.the-variants.{Spent}
 
 -- No pattern of a case gives more than its bound.
-abbrev pub Bounds : (List Excitation → ℕ) → (Case → ℕ) → Type 0
-Bounds simulated bound = (pattern : List Excitation) (case : Case) → Choice pattern case → simulated pattern ≤ bound case
+abbrev pub UpperBound : (List Excitation → ℕ) → (Case → ℕ) → Type 0
+UpperBound simulated bound = (pattern : List Excitation) (case : Case) → Choice pattern case → simulated pattern ≤ bound case
 
--- Where some input of a case is undecided, the choice is one of those.
-abbrev pub Chooses : (Case → ℕ) → Type 0
-Chooses choose = (case : Case) → decided case ≡ false → undecided (getD case (choose case) empty) ≡ true
+-- Where some input of a case with so many inputs is undecided, the choice is one of those. Of cases with more inputs or fewer nothing is
+-- asked.
+abbrev pub Chooses : ℕ → (Case → ℕ) → Type 0
+Chooses inputs choose = (case : Case) → length case ≡ inputs → decided case ≡ false → undecided (getD case (choose case) empty) ≡ true
 
 -- A pattern is one of a case in the store.
 pub record Covered (pattern : List Excitation) (cases : List StoredCase) : Type 0 where

@@ -1,10 +1,11 @@
 -- What the code reads from and writes to the case store (for document 01, "Search").
-use Prim.Native.Nat.{ℕ, _+_, _*_, _≤_, _<_, _^_}
+use Prim.Native.Nat.{ℕ, _+_, _*_, _≤_, _<_}
 use mathlib.Core.List.{List, _++_}
 use mathlib.Core.Path.{_≡_}
 use lib.ListN.{length, getD, drop}
 use Rattle.laws.specs.Turn.{listBelow}
 use Rattle.excitation.specs.UncertaintySet.{setsIn}
+use Rattle.block.specs.Limits.{dropLimit}
 use Rattle.cases.specs.Search.{StoredCase}
 use Rattle.cases.specs.Store.{numberBytes}
 
@@ -41,7 +42,7 @@ pub record HasCases (inputs : ℕ) (store : List ℕ) (n : ℕ) : Type 0 where
   pub whole : 72 * n ≤ length store
   pub few : n ≤ 30001
   pub codes : (k : ℕ) → k < n → SetCodes inputs (drop (72 * k) store)
-  pub upper-low : (k : ℕ) → k < n → upperIn store k < 2 ^ 46
+  pub upper-low : (k : ℕ) → k < n → upperIn store k < dropLimit
   pub upper-bytes : (k : ℕ) → k < n → (j : ℕ) → j < 8 → getD store (72 * k + 64 + j) 0 ≡ getD (numberBytes 8 (upperIn store k)) j 0
 
 -- Byte j of the record with these 64 bytes of sets and this upper number.

@@ -5,11 +5,11 @@ use mathlib.Core.Bool.{cond}
 use mathlib.Core.List.{List, [], _∷_, _++_, map}
 use lib.Dec.{eqb, leb, ltb}
 use lib.ListN.{length, getD, set}
-use Rattle.laws.specs.Below.{maxBelow, firstGreatest}
+use Rattle.laws.specs.Below.{maxBelow, argmax}
 use Rattle.excitation.specs.declared.Excitation.{Excitation}
-use Rattle.cases.specs.Case.{Case, probe, takenOf, children}
-use Rattle.cases.specs.declared.Outcome.{Outcome}
-use Rattle.cases.specs.declared.Outcome.the-variants.{Exact, Within, Spent}
+use Rattle.cases.specs.Case.{Case, probe, evaluationOf, children}
+use Rattle.operation.specs.declared.Outcome.{Outcome}
+use Rattle.operation.specs.declared.Outcome.the-variants.{Exact, Within, Spent}
 
 -- Document 01's L, the greatest probe drop, and the pattern, the first probe to reach it.
 pub record Best : Type 0 where
@@ -40,7 +40,7 @@ module _ (simulated : List Excitation → ℕ) (bound : Case → ℕ) where
   -- A case with its upper number: of a case with every input decided its simulated drop, of another its envelope's drop; never above
   -- its parent's, which is the cap.
   unfoldable pub madeUnder : ℕ → Case → StoredCase
-  madeUnder cap case = record { sets = case; upper = min cap (takenOf simulated bound case) }
+  madeUnder cap case = record { sets = case; upper = min cap (evaluationOf simulated bound case) }
 
 -- What stands for a case past the store's end.
 abbrev pub noCase : StoredCase
@@ -64,7 +64,7 @@ pub record State : Type 0 where
 -- The first case is the whole frame. It has no parent.
 unfoldable pub firstState : (List Excitation → ℕ) → (Case → ℕ) → Case → State
 firstState simulated bound frame = record {
-  cases = record { sets = frame; upper = takenOf simulated bound frame } ∷ [];
+  cases = record { sets = frame; upper = evaluationOf simulated bound frame } ∷ [];
   best = firstBest simulated frame;
 }
 
@@ -78,7 +78,7 @@ outcomeAt ratio state = outcomeOf ratio (greatestUpper (state .cases)) (state .b
 
 -- The number of the case to split: the first whose upper number is U.
 unfoldable pub nextSplit : List StoredCase → ℕ
-nextSplit cases = firstGreatest (length cases) (upperAt cases)
+nextSplit cases = argmax (length cases) (upperAt cases)
 
 -- Children in their places: the first takes the parent's place, the rest are appended.
 unfoldable pub placed : ℕ → List StoredCase → List StoredCase → List StoredCase
@@ -123,4 +123,4 @@ module _ (simulated : List Excitation → ℕ) (bound choose : Case → ℕ) (ra
 
 -- The sheet of a search: the greatest, at each place, over the cases in the store at the end, decided ones simulated.
 unfoldable pub casesSheet : (List Excitation → ℕ → ℕ → ℕ) → (Case → ℕ → ℕ → ℕ) → List StoredCase → ℕ → ℕ → ℕ
-casesSheet simulated enveloped cases c t = maxBelow (length cases) (λ k. takenOf simulated enveloped (setsAt cases k) c t)
+casesSheet simulated enveloped cases c t = maxBelow (length cases) (λ k. evaluationOf simulated enveloped (setsAt cases k) c t)

@@ -4,20 +4,20 @@ ghost use Prim.Native.Nat.{ℕ, _≤_, _<_};
 ghost use lib.ListN.{length};
 ghost use Rattle.excitation.specs.UncertaintySet.{decode, setsIn};
 ghost use Rattle.block.specs.Accepted.{AcceptedFile};
-ghost use Rattle.block.specs.Block.{fedFrom, coneSize};
-ghost use Rattle.block.specs.Record.{HasRecord, pinCount, pin};
+ghost use Rattle.block.specs.Block.{feeds, coneSize};
+ghost use Rattle.block.specs.View.{pinOf};
 ghost use Rattle.laws.specs.Rewritten.{Rewritten};
 ghost use Rattle.cases.specs.Choice.{rankOf, chosenInput};
 use super::sets;
+use block::Gate;
 use block::Net;
 use block::view;
 
-// Whether a source is a pin of the gate of a net, or feeds one of its pins, given which nets below the gate it feeds.
-fn feeds(file: &[u8], source: Net, fed: &[bool], net: Net) -> bool
-    requires { ⌜ HasRecord (now file) (net .0) × (pinCount (now file) (net .0) ≤ 4) × ((p : ℕ) → p < pinCount (now file) (net .0) → pin (now file) (net .0) p < length (now fed)) ⌝ }
-    ensures { λ r. ⌜ r ≡ fedFrom (now (file .entry)) (source .0) (now (fed .entry)) (net .0) ⌝ }
+// Whether a net is a pin of a gate, or feeds one of its pins, given which nets below the gate it feeds.
+fn feeds(gate: Gate, source: Net, fed: &[bool]) -> bool
+    requires { ⌜ (gate .used ≤ 4) × ((p : ℕ) → p < gate .used → pinOf gate p < length (now fed)) ⌝ }
+    ensures { λ r. ⌜ r ≡ feeds (source .0) (now (fed .entry)) gate ⌝ }
 {
-    let gate = view::gate(file, net);
     let mut p: usize = 0;
     while p < gate.used {
         let pin = gate.pins[p];
@@ -40,13 +40,14 @@ fn cone_size(file: &[u8], nets: usize, inputs: usize, source: Net) -> u16
 {
     let mut fed = [false; 1024];
     let mut size: u16 = 0;
-    let mut gate = inputs;
-    while gate < nets {
-        if feeds(file, source, &fed, Net(gate)) {
-            fed[gate] = true;
+    let mut net = inputs;
+    while net < nets {
+        let gate = view::gate(file, Net(net));
+        if feeds(gate, source, &fed) {
+            fed[net] = true;
             size += 1;
         }
-        gate += 1;
+        net += 1;
     }
     size
 }

@@ -18,10 +18,3 @@ impl CaseNumber {
         72 * self.0
     }
 }
-
-// How a search ends.
-pub enum Outcome {
-    Exact,
-    Within,
-    Spent,
-}

@@ -1,10 +1,10 @@
 // The sets of a case, by their codes: a byte for each input.
 ghost use mathlib.Core.Path.{_≡_};
 ghost use Prim.Native.Nat.{_≤_, _<_};
-ghost use lib.ListN.{length};
+ghost use lib.ListN.{length, getD};
 ghost use Rattle.laws.specs.Rewritten.{Rewritten};
 ghost use Rattle.excitation.specs.Excitation.{byteOf};
-ghost use Rattle.excitation.specs.UncertaintySet.{decode, setsIn};
+ghost use Rattle.excitation.specs.UncertaintySet.{code, decode, single, setsIn};
 ghost use Rattle.cases.specs.Store.{patternByte};
 ghost use Rattle.cases.specs.Case.{undecided, decided, firstAllowed, probe};
 
@@ -44,6 +44,19 @@ fn first_allowed(code: u8) -> u8
         return 1;
     }
     0
+}
+
+// Writes the codes of the single sets of a case's probe.
+pub fn write_probe_codes(codes: &[u8], inputs: usize, singles: &mut [u8])
+    requires { ⌜ (inputs ≤ length (now codes)) × (inputs ≤ length (now singles)) ⌝ }
+    ensures { λ _. ⌜ Rewritten (λ net. code (single (firstAllowed (decode (getD (now (codes .entry)) net 0))))) 0 inputs (now (singles .entry)) (now (singles .exit)) ⌝ }
+{
+    let mut net: usize = 0;
+    while net < inputs {
+        let first = excitation::excitation_of(first_allowed(codes[net]));
+        singles[net] = excitation::single(first).code;
+        net += 1;
+    }
 }
 
 // Writes a case's probe, a byte for each input.

@@ -2,18 +2,11 @@
 ghost use mathlib.Core.Path.{_≡_};
 ghost use Prim.Native.Nat.{_+_, _*_, _≤_, _<_};
 ghost use lib.ListN.{length, getD};
-ghost use Rattle.laws.specs.Below.{firstGreatest};
+ghost use Rattle.laws.specs.Below.{argmax};
 ghost use Rattle.laws.specs.Rewritten.{Rewritten};
 ghost use Rattle.cases.specs.Store.{numberBytes};
 ghost use Rattle.cases.specs.Records.{upperIn, HasCase, recordByte};
 use super::CaseNumber;
-
-// A byte as a number.
-fn wide(x: u8) -> u64
-    ensures { λ r. ⌜ (r ≡ x) × (r < 256) ⌝ }
-{
-    x as u64
-}
 
 // Copies n bytes, from place `start` of one buffer to place `at` of another.
 pub fn copy(from: &[u8], start: usize, to: &mut [u8], at: usize, n: usize)
@@ -40,8 +33,8 @@ fn half(bytes: &[u8], at: usize) -> u64
     requires { ⌜ at + 4 ≤ length (now bytes) ⌝ }
     ensures { λ r. ⌜ (r ≡ getD (now (bytes .entry)) at 0 + 256 * (getD (now (bytes .entry)) (at + 1) 0 + 256 * (getD (now (bytes .entry)) (at + 2) 0 + 256 * getD (now (bytes .entry)) (at + 3) 0))) × (r < 4294967296) ⌝ }
 {
-    let low = wide(bytes[at]) + 256 * wide(bytes[at + 1]);
-    let high = wide(bytes[at + 2]) + 256 * wide(bytes[at + 3]);
+    let low = numbers::u64_from_u8(bytes[at]) + 256 * numbers::u64_from_u8(bytes[at + 1]);
+    let high = numbers::u64_from_u8(bytes[at + 2]) + 256 * numbers::u64_from_u8(bytes[at + 3]);
     low + 65536 * high
 }
 
@@ -79,9 +72,9 @@ pub fn write_case(store: &mut [u8], case: CaseNumber, codes: &[u8], upper: u64)
 }
 
 // The first of the first n cases whose upper number is the greatest.
-pub fn first_greatest(store: &[u8], n: usize) -> CaseNumber
+pub fn argmax(store: &[u8], n: usize) -> CaseNumber
     requires { ⌜ (72 * n ≤ length (now store)) × (1 ≤ n) × (n ≤ 30001) ⌝ }
-    ensures { λ r. ⌜ (r .0 ≡ firstGreatest n (upperIn (now (store .entry)))) × (r .0 < n) ⌝ }
+    ensures { λ r. ⌜ (r .0 ≡ argmax n (upperIn (now (store .entry)))) × (r .0 < n) ⌝ }
 {
     let mut best: usize = 0;
     let mut most = upper(store, CaseNumber(0));

@@ -2,16 +2,17 @@
 -- Assumes nothing.
 use mathlib.Core.List.{[], _∷_}
 use mathlib.Core.Path.{_≡_, refl}
-use Rattle.laws.specs.Below.{allBelow, anyBelow, maxBelow, firstGreatest, sumBelow, countBelow}
+use Rattle.laws.specs.Below.{allBelow, anyBelow, maxBelow, argmax, sumBelow, countBelow}
 use Rattle.laws.specs.Turn.{inTurn, listBelow}
 use Rattle.excitation.specs.Excitation.{lh, excitationOf}
 use Rattle.excitation.specs.UncertaintySet.{member, decode, joinSets, each, size}
 use Rattle.excitation.proofs.Examples.{set-examples}
-use Rattle.block.specs.Block.{inputsBelow, frame, fedFrom, coneSize}
+use Rattle.block.specs.Block.{switchingTick, inputsBelow, frame, feeds, fedFrom, coneSize}
 use Rattle.block.specs.Examples.{blockS, blockF}
 use Rattle.block.specs.Gate.{gateValue}
 use Rattle.block.specs.Kind.{kindOf}
 use Rattle.block.specs.Record.{isInput}
+use Rattle.block.specs.View.{gateOf}
 use Rattle.block.proofs.Examples.{block-examples}
 use Rattle.fill.specs.Fill.{holding, ticksInside, fillTicks, setsHolding, filled}
 use Rattle.fill.specs.Runs.{extend, runsFrom, gapsAfter, gaps, shorter, shortest, close, closeFirst, closeShortest, closeWhile, merged, inside}
@@ -21,29 +22,28 @@ use Rattle.current.specs.Current.{ticksWhere, greatestAt, gateCurrent, drawsAt,
 use Rattle.current.specs.Examples.{tableF}
 use Rattle.current.specs.Pulse.{levelAfter, pulse, pulseAt}
 use Rattle.current.proofs.Examples.{current-examples}
-use Rattle.cases.specs.declared.Outcome.the-variants.{Exact, Within, Spent}
-use Rattle.cases.specs.Case.{undecided, decided, firstAllowed, probe, takenOf, membersBelow, childrenBelow}
+use Rattle.operation.specs.declared.Outcome.the-variants.{Exact, Within, Spent}
+use Rattle.cases.specs.Case.{undecided, decided, firstAllowed, probe, evaluationOf, membersBelow, childrenBelow}
 use Rattle.cases.specs.Choice.{coneSizes, rankOf, rank, chosenInput}
 use Rattle.cases.specs.Search.{upperAt, setsAt, greatestUpper, nextSplit, placed, outcomeOf, better, bestOf, firstBest, madeUnder, firstState, nextChildren, split, outcomeAt, searchFrom, search}
-use Rattle.examples.specs.Starred.{tableS, SearchExamples, Starred}
-use Rattle.search.specs.Search.{searchOf, foundAnswer}
-use Rattle.search.specs.declared.SearchAnswer.the-variants as answer
+use Rattle.examples.specs.Starred.{tableS, searching, finding, SearchExamples, Starred}
+use Rattle.search.specs.Search.{searchOf, foundBy}
 
 -- Block F, and block S with no split and as the program searches it.
 
-block-F : (foundAnswer (searchOf blockF 10 tableF 1000 200) ≡ answer.Found Exact 55 55 0 1)
-    × (searchOf blockF 10 tableF 1000 200 .state .best .pattern ≡ lh ∷ lh ∷ [])
-unfolding allBelow anyBelow maxBelow firstGreatest sumBelow countBelow inTurn listBelow excitationOf member decode joinSets each size isInput kindOf gateValue inputsBelow frame fedFrom coneSize extend runsFrom gapsAfter gaps shorter shortest close closeFirst closeShortest closeWhile merged inside holding ticksInside fillTicks setsHolding filled earlier inputWaveform gateFrom pinWaveform gateAt gateWaveform netWaveform waveforms levelAfter pulse pulseAt ticksWhere greatestAt gateCurrent drawsAt part contactCurrent dropAt dropOf transitionsOf sheetOf undecided decided firstAllowed probe takenOf membersBelow childrenBelow coneSizes rankOf rank chosenInput upperAt setsAt greatestUpper nextSplit placed outcomeOf better bestOf firstBest madeUnder firstState nextChildren split outcomeAt searchFrom search searchOf foundAnswer
+block-F : (foundBy (searchOf (searching blockF tableF 1000 200)) ≡ finding Exact 55 55 0 1)
+    × (searchOf (searching blockF tableF 1000 200) .state .best .pattern ≡ lh ∷ lh ∷ [])
+unfolding allBelow anyBelow maxBelow argmax sumBelow countBelow inTurn listBelow excitationOf member decode joinSets each size isInput kindOf gateValue gateOf switchingTick inputsBelow frame feeds fedFrom coneSize extend runsFrom gapsAfter gaps shorter shortest close closeFirst closeShortest closeWhile merged inside holding ticksInside fillTicks setsHolding filled earlier inputWaveform gateFrom pinWaveform gateAt gateWaveform netWaveform waveforms levelAfter pulse pulseAt ticksWhere greatestAt gateCurrent drawsAt part contactCurrent dropAt dropOf transitionsOf sheetOf undecided decided firstAllowed probe evaluationOf membersBelow childrenBelow coneSizes rankOf rank chosenInput upperAt setsAt greatestUpper nextSplit placed outcomeOf better bestOf firstBest madeUnder firstState nextChildren split outcomeAt searchFrom search searchOf foundBy
 block-F = (refl, refl)
 
-unsplit-S : (foundAnswer (searchOf blockS 10 tableS 1999 0) ≡ answer.Found Spent 20 10 0 1)
-    × (foundAnswer (searchOf blockS 10 tableS 2000 0) ≡ answer.Found Within 20 10 0 1)
-unfolding allBelow anyBelow maxBelow firstGreatest sumBelow countBelow inTurn listBelow excitationOf member decode joinSets each size isInput kindOf gateValue inputsBelow frame fedFrom coneSize extend runsFrom gapsAfter gaps shorter shortest close closeFirst closeShortest closeWhile merged inside holding ticksInside fillTicks setsHolding filled earlier inputWaveform gateFrom pinWaveform gateAt gateWaveform netWaveform waveforms levelAfter pulse pulseAt ticksWhere greatestAt gateCurrent drawsAt part contactCurrent dropAt dropOf transitionsOf sheetOf undecided decided firstAllowed probe takenOf membersBelow childrenBelow coneSizes rankOf rank chosenInput upperAt setsAt greatestUpper nextSplit placed outcomeOf better bestOf firstBest madeUnder firstState nextChildren split outcomeAt searchFrom search searchOf foundAnswer
+unsplit-S : (foundBy (searchOf (searching blockS tableS 1999 0)) ≡ finding Spent 20 10 0 1)
+    × (foundBy (searchOf (searching blockS tableS 2000 0)) ≡ finding Within 20 10 0 1)
+unfolding allBelow anyBelow maxBelow argmax sumBelow countBelow inTurn listBelow excitationOf member decode joinSets each size isInput kindOf gateValue gateOf switchingTick inputsBelow frame feeds fedFrom coneSize extend runsFrom gapsAfter gaps shorter shortest close closeFirst closeShortest closeWhile merged inside holding ticksInside fillTicks setsHolding filled earlier inputWaveform gateFrom pinWaveform gateAt gateWaveform netWaveform waveforms levelAfter pulse pulseAt ticksWhere greatestAt gateCurrent drawsAt part contactCurrent dropAt dropOf transitionsOf sheetOf undecided decided firstAllowed probe evaluationOf membersBelow childrenBelow coneSizes rankOf rank chosenInput upperAt setsAt greatestUpper nextSplit placed outcomeOf better bestOf firstBest madeUnder firstState nextChildren split outcomeAt searchFrom search searchOf foundBy
 unsplit-S = (refl, refl)
 
-block-S : (foundAnswer (searchOf blockS 10 tableS 1000 200) ≡ answer.Found Exact 10 10 1 4)
-    × (searchOf blockS 10 tableS 1000 200 .state .best .pattern ≡ lh ∷ [])
-unfolding allBelow anyBelow maxBelow firstGreatest sumBelow countBelow inTurn listBelow excitationOf member decode joinSets each size isInput kindOf gateValue inputsBelow frame fedFrom coneSize extend runsFrom gapsAfter gaps shorter shortest close closeFirst closeShortest closeWhile merged inside holding ticksInside fillTicks setsHolding filled earlier inputWaveform gateFrom pinWaveform gateAt gateWaveform netWaveform waveforms levelAfter pulse pulseAt ticksWhere greatestAt gateCurrent drawsAt part contactCurrent dropAt dropOf transitionsOf sheetOf undecided decided firstAllowed probe takenOf membersBelow childrenBelow coneSizes rankOf rank chosenInput upperAt setsAt greatestUpper nextSplit placed outcomeOf better bestOf firstBest madeUnder firstState nextChildren split outcomeAt searchFrom search searchOf foundAnswer
+block-S : (foundBy (searchOf (searching blockS tableS 1000 200)) ≡ finding Exact 10 10 1 4)
+    × (searchOf (searching blockS tableS 1000 200) .state .best .pattern ≡ lh ∷ [])
+unfolding allBelow anyBelow maxBelow argmax sumBelow countBelow inTurn listBelow excitationOf member decode joinSets each size isInput kindOf gateValue gateOf switchingTick inputsBelow frame feeds fedFrom coneSize extend runsFrom gapsAfter gaps shorter shortest close closeFirst closeShortest closeWhile merged inside holding ticksInside fillTicks setsHolding filled earlier inputWaveform gateFrom pinWaveform gateAt gateWaveform netWaveform waveforms levelAfter pulse pulseAt ticksWhere greatestAt gateCurrent drawsAt part contactCurrent dropAt dropOf transitionsOf sheetOf undecided decided firstAllowed probe evaluationOf membersBelow childrenBelow coneSizes rankOf rank chosenInput upperAt setsAt greatestUpper nextSplit placed outcomeOf better bestOf firstBest madeUnder firstState nextChildren split outcomeAt searchFrom search searchOf foundBy
 block-S = (refl, refl)
 
 search-examples : SearchExamples

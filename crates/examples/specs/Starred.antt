@@ -7,26 +7,46 @@ use lib.ListN.{replicate}
 use Rattle.excitation.specs.Excitation.{lh}
 use Rattle.excitation.specs.Examples.{SetExamples}
 use Rattle.block.specs.Examples.{blockS, blockF, BlockExamples}
+use Rattle.block.specs.Record.{File}
 use Rattle.fill.specs.Examples.{FillExamples}
 use Rattle.current.specs.Examples.{tableF, CurrentExamples}
-use Rattle.cases.specs.declared.Outcome.the-variants.{Exact, Within, Spent}
-use Rattle.search.specs.Search.{searchOf, foundAnswer}
-use Rattle.search.specs.declared.SearchAnswer.the-variants as answer
+use Rattle.operation.specs.declared.Found.{Found}
+use Rattle.operation.specs.declared.Outcome.{Outcome}
+use Rattle.operation.specs.declared.Outcome.the-variants.{Exact, Within, Spent}
+use Rattle.search.specs.Search.{SearchArguments, searchOf, foundBy}
 
 -- One node: 16 resistances of 1.
 abbrev pub tableS : List ℕ
 tableS = replicate 16 1
 
+-- A search with a hop limit of 10, of a file with a table, a ratio and a budget. What is found does not depend on the buffers lent.
+abbrev pub searching : File → List ℕ → ℕ → ℕ → SearchArguments
+searching file table ratio budget = record {
+  file = file;
+  hops = 10;
+  table = table;
+  ratio = ratio;
+  budget = budget;
+  sheet = [];
+  pattern = [];
+  work = [];
+  store = [];
+}
+
+-- What a search finds: its outcome, U, L, splits and cases.
+abbrev pub finding : Outcome → ℕ → ℕ → ℕ → ℕ → Found
+finding outcome upper lower splits cases = record { outcome = outcome; upper = upper; lower = lower; splits = splits; cases = cases }
+
 pub record SearchExamples : Type 0 where
   -- Block F, resistances 2, 1: ★ exact with no split.
-  pub exact-F : foundAnswer (searchOf blockF 10 tableF 1000 200) ≡ answer.Found Exact 55 55 0 1
-  pub pattern-F : searchOf blockF 10 tableF 1000 200 .state .best .pattern ≡ lh ∷ lh ∷ []
+  pub exact-F : foundBy (searchOf (searching blockF tableF 1000 200)) ≡ finding Exact 55 55 0 1
+  pub pattern-F : searchOf (searching blockF tableF 1000 200) .state .best .pattern ≡ lh ∷ lh ∷ []
   -- Block S, resistance 1: ★ budget 0, ratio 1,999: spent, U 20, L 10; ★ ratio 2,000: within.
-  pub spent-S : foundAnswer (searchOf blockS 10 tableS 1999 0) ≡ answer.Found Spent 20 10 0 1
-  pub within-S : foundAnswer (searchOf blockS 10 tableS 2000 0) ≡ answer.Found Within 20 10 0 1
+  pub spent-S : foundBy (searchOf (searching blockS tableS 1999 0)) ≡ finding Spent 20 10 0 1
+  pub within-S : foundBy (searchOf (searching blockS tableS 2000 0)) ≡ finding Within 20 10 0 1
   -- What the program finds of block S.
-  pub exact-S : foundAnswer (searchOf blockS 10 tableS 1000 200) ≡ answer.Found Exact 10 10 1 4
-  pub pattern-S : searchOf blockS 10 tableS 1000 200 .state .best .pattern ≡ lh ∷ []
+  pub exact-S : foundBy (searchOf (searching blockS tableS 1000 200)) ≡ finding Exact 10 10 1 4
+  pub pattern-S : searchOf (searching blockS tableS 1000 200) .state .best .pattern ≡ lh ∷ []
 
 -- Every starred example is a field of one of these records, marked there with its star.
 pub record Starred : Type 0 where

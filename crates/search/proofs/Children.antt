@@ -23,6 +23,7 @@ use Rattle.excitation.proofs.Finite.{for-each}
 use Rattle.block.specs.Record.{File}
 use Rattle.cases.specs.Case.{Case, membersBelow, childrenBelow}
 use Rattle.cases.specs.Records.{SetCodes}
+use Rattle.evaluation.specs.declared.Setting.{Setting}
 use Rattle.bounds.specs.Bounds.{CaseMade}
 use Rattle.search.specs.Steps.{ChildMade, childCodes}
 use Rattle.search.specs.declared.Step.{Step}
@@ -81,9 +82,9 @@ allowed-is : (parent : List ℕ) (input e : ℕ) {x : Excitation} {allowed : Boo
     → allowed ≡ member x (decode (getD parent input 0)) → allowed ≡ member (excitationOf e) (decode (getD parent input 0))
 allowed-is parent input e is tested = tested ∙ ap (λ x. member x (decode (getD parent input 0))) is
 
-pub child-skipped : {file : File} {inputs hops : ℕ} {table parent : List ℕ} {input e cap : ℕ} {step : Step} {store pattern : List ℕ}
+pub child-skipped : {file : File} {setting : Setting} {table parent : List ℕ} {input e cap : ℕ} {step : Step} {store pattern : List ℕ}
     {x : Excitation} {allowed : Bool} → x ≡ excitationOf e → allowed ≡ member x (decode (getD parent input 0)) → not allowed ≡ true
-    → ChildMade file inputs hops table parent input e cap step store pattern step store pattern
+    → ChildMade file setting table parent input e cap step store pattern step store pattern
 child-skipped {parent} {input} {e} is tested h =
     let no = refuted (allowed-is parent input e is tested) h in
     record {
@@ -92,12 +93,12 @@ child-skipped {parent} {input} {e} is tested h =
       counted = λ t. absurd (false≢true (sym no ∙ t));
     }
 
-pub child-made : {file : File} {inputs hops : ℕ} {table parent : List ℕ} {input e cap : ℕ} {step : Step} {store pattern : List ℕ}
-    {x : Excitation} {allowed : Bool} {codes : List ℕ} {cases goal : ℕ} {store′ pattern′ : List ℕ}
+pub child-made : {file : File} {setting : Setting} {table parent : List ℕ} {input e cap : ℕ} {step : Step} {store pattern : List ℕ}
+    {x : Excitation} {allowed : Bool} {codes : List ℕ} {cases threshold : ℕ} {store′ pattern′ : List ℕ}
     → x ≡ excitationOf e → allowed ≡ member x (decode (getD parent input 0)) → not allowed ≡ false
-    → codes ≡ childCodes parent input e → CaseMade file inputs hops table codes cap (step .goal) (step .next .0) store pattern goal store′ pattern′
+    → codes ≡ childCodes parent input e → CaseMade file setting table codes cap (step .threshold) (step .next .0) store pattern threshold store′ pattern′
     → cases ≡ max (step .next .0 + 1) (step .cases)
-    → ChildMade file inputs hops table parent input e cap step store pattern (record { cases = cases; next = record { 0 = cases }; goal = goal }) store′ pattern′
+    → ChildMade file setting table parent input e cap step store pattern (record { cases = cases; next = record { 0 = cases }; threshold = threshold }) store′ pattern′
 child-made {parent} {input} {e} is tested h coded made count =
     let yes = confirmed (allowed-is parent input e is tested) h in
     record {

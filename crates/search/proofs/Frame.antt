@@ -23,8 +23,8 @@ use Rattle.block.proofs.Frames.{frame-at, frame-long}
 use Rattle.cases.specs.Case.{probe}
 use Rattle.cases.specs.Store.{patternWith}
 use Rattle.cases.proofs.Cases.{probe-chosen}
-use Rattle.simulator.specs.Simulate.{byteAllowed, bytesFrom}
-use Rattle.simulator.proofs.Patterns.{bytes-pass}
+use Rattle.operation.specs.Pattern.{byteAllowed, byteChecks}
+use Rattle.operation.proofs.Patterns.{bytes-pass}
 
 -- The frame's probe is one of its patterns.
 pub frame-probe : (file : File) (nets inputs : ℕ) → AcceptedFile file nets inputs → Choice (probe (frame file)) (frame file)
@@ -63,5 +63,5 @@ module _ (file : File) (pattern : List Excitation) (given : List ℕ) (choice : 
       (subst (λ s. getD pattern net l ∈ s) (frame-at file net h) (pairs-in _∈_ choice l empty net (rw pattern-long h)))))
 
   -- Check 16 lets it pass.
-  pub pattern-passes : verdict (bytesFrom file (patternWith pattern given) 0 (inputCount file)) ≡ verdict-is.Accepted
-  pattern-passes = bytes-pass file (patternWith pattern given) 0 (inputCount file) (λ net low high. allowed-here net (omega arith))
+  pub pattern-passes : verdict (byteChecks file (patternWith pattern given) (inputCount file)) ≡ verdict-is.Accepted
+  pattern-passes = bytes-pass file (patternWith pattern given) (inputCount file) allowed-here

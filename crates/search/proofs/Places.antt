@@ -1,12 +1,13 @@
 -- Where the children of a split go: the first to the parent's place, each other past the cases. One child more in the store.
 -- Assumes nothing.
-use Prim.Native.Nat.{ℕ, _+_, _*_, _≤_, _<_, _^_, max}
+use Prim.Native.Nat.{ℕ, _+_, _*_, _≤_, _<_, max}
 use mathlib.Core.List.{List, [], _∷_, _++_, map, append-nil, append-assoc, map-append}
 use mathlib.Core.Logic.{inr}
 use mathlib.Core.Path.{_≡_, refl, ap, sym, _∙_}
 use native.Mathlib.Omega.{arith}
 use lib.ListN.{length, set}
 use Rattle.laws.specs.Rewritten.{Rewritten}
+use Rattle.block.specs.Limits.{dropLimit}
 use Rattle.cases.specs.Case.{Case}
 use Rattle.cases.specs.Records.{casesIn, recordByte, SetCodes, HasCases}
 use Rattle.cases.specs.Search.{StoredCase, placed}
@@ -48,7 +49,7 @@ module _ (k n e count next : ℕ) (inside : k < n) where
 
 -- One child more in the store.
 
-module _ {inputs : ℕ} (few : inputs ≤ 64) {codes : List ℕ} (long : length codes ≡ 64) (coded : SetCodes inputs codes) {upper : ℕ} (low : upper < 2 ^ 46)
+module _ {inputs : ℕ} (few : inputs ≤ 64) {codes : List ℕ} (long : length codes ≡ 64) (coded : SetCodes inputs codes) {upper : ℕ} (low : upper < dropLimit)
     {store after : List ℕ} (next : ℕ) (written : Rewritten (recordByte codes upper) (72 * next) 72 store after)
     (make : Case → StoredCase) (child : Case) (is : caseOf inputs codes upper ≡ make child)
     (k n e count : ℕ) (inside : k < n) (turn : e < 4) (numbered : n + 3 ≤ 30001) (given : List ℕ) (room : 72 * (n + 3) ≤ length given)

@@ -5,46 +5,51 @@ use Prim.Native.Nat.{ℕ, _+_, _*_, _≤_, _<_}
 use mathlib.Core.List.{List}
 use mathlib.Core.Path.{_≡_}
 use lib.ListN.{length, getD}
-use Rattle.block.specs.Block.{patternCount, quietTick}
-use Rattle.block.specs.Record.{File, netCount}
-use Rattle.cases.specs.declared.Outcome.{Outcome}
-use Rattle.cases.specs.declared.Outcome.the-variants.{Exact, Within, Spent}
-use Rattle.evaluation.specs.declared.CurrentsAnswer.{CurrentsAnswer}
-use Rattle.evaluation.specs.declared.CurrentsAnswer.the-variants.{Flowing}
-use Rattle.simulator.specs.Simulate.{Simulated}
-use Rattle.search.specs.Search.{Searched}
-use Rattle.search.specs.declared.SearchAnswer.the-variants.{Found}
+use Rattle.block.specs.Block.{patternCount}
+use Rattle.block.specs.Record.{netCount}
+use Rattle.operation.specs.declared.Currents.{Currents}
+use Rattle.operation.specs.declared.CurrentsAnswer.{CurrentsAnswer}
+use Rattle.operation.specs.declared.CurrentsAnswer.the-variants as currents
+use Rattle.operation.specs.declared.Found.{Found}
+use Rattle.operation.specs.declared.Outcome.the-variants.{Exact, Within, Spent}
+use Rattle.operation.specs.declared.SearchAnswer.the-variants as search
+use Rattle.evaluation.specs.Evaluation.{quietTick}
+use Rattle.simulator.specs.Simulate.{SimulateArguments, patternSheet, Simulated}
+use Rattle.search.specs.Search.{SearchArguments, Searched}
 
--- What a search that was accepted gives: its outcome, U, L and splits, and its sheet and pattern buffers at return. Of a run of Simulate,
--- `given` is the sheet as it was lent, `bytes` the pattern buffer, `simulated` the sheet at return.
-pub record Agrees (file : File) (table : List ℕ) (ratio budget : ℕ) (outcome : Outcome) (upper lower splits : ℕ) (sheet pattern : List ℕ) : Type 0 where
+-- A run of Simulate on the file and the table of a search, with a sheet, a pattern and a work buffer of its own.
+abbrev pub sharing : SearchArguments → List ℕ → List ℕ → List ℕ → SimulateArguments
+sharing given room bytes work = record { file = given .file; table = given .table; sheet = room; pattern = bytes; work = work }
+
+-- What a search that was accepted gives: what it found, and its sheet and pattern buffers at return. Of a run of Simulate, `room` is the
+-- sheet as it was lent, `bytes` the pattern buffer, `simulated` the sheet at return.
+pub record Agrees (given : SearchArguments) (found : Found) (sheet pattern : List ℕ) : Type 0 where
   -- Whichever pattern Simulate accepts, no word of its sheet is above the search's, and its drop is not above U.
-  pub draws-no-more : (given bytes work : List ℕ) (drop quiet : ℕ) (simulated work′ : List ℕ)
-      → Simulated file table given bytes work (Flowing drop quiet) simulated work′ → (i : ℕ) → getD simulated i 0 ≤ getD sheet i 0
-  pub drops-no-more : (given bytes work : List ℕ) (drop quiet : ℕ) (simulated work′ : List ℕ)
-      → Simulated file table given bytes work (Flowing drop quiet) simulated work′ → drop ≤ upper
+  pub draws-no-more : (room bytes work : List ℕ) (answer : Currents) (simulated work′ : List ℕ)
+      → Simulated (sharing given room bytes work) (currents.Found answer) simulated work′ → (i : ℕ) → getD simulated i 0 ≤ getD sheet i 0
+  pub drops-no-more : (room bytes work : List ℕ) (answer : Currents) (simulated work′ : List ℕ)
+      → Simulated (sharing given room bytes work) (currents.Found answer) simulated work′ → answer .drop ≤ found .upper
   -- Simulate, given the search's pattern buffer and buffers of the right sizes, accepts it, and it drops exactly L.
-  pub pattern-drops : (given work : List ℕ) (answer : CurrentsAnswer) (simulated work′ : List ℕ) → length given ≡ 8192 → 160 * netCount file ≤ length work
-      → Simulated file table given pattern work answer simulated work′ → answer ≡ Flowing lower (quietTick file)
+  pub pattern-drops : (room work : List ℕ) (answer : CurrentsAnswer) (simulated work′ : List ℕ) → length room ≡ 8192
+      → 160 * netCount (given .file) ≤ length work → Simulated (sharing given room pattern work) answer simulated work′
+      → answer ≡ currents.Found (record { drop = found .lower; quiet = quietTick (given .file) (patternSheet (given .file) pattern) })
   -- Exact exactly when U = L, and then every accepted pattern drops at most L.
-  pub exact-means : outcome ≡ Exact → upper ≡ lower
-  pub exact-when : upper ≡ lower → outcome ≡ Exact
-  pub exact-drops : outcome ≡ Exact → (given bytes work : List ℕ) (drop quiet : ℕ) (simulated work′ : List ℕ)
-      → Simulated file table given bytes work (Flowing drop quiet) simulated work′ → drop ≤ lower
+  pub exact-means : found .outcome ≡ Exact → found .upper ≡ found .lower
+  pub exact-when : found .upper ≡ found .lower → found .outcome ≡ Exact
+  pub exact-drops : found .outcome ≡ Exact → (room bytes work : List ℕ) (answer : Currents) (simulated work′ : List ℕ)
+      → Simulated (sharing given room bytes work) (currents.Found answer) simulated work′ → answer .drop ≤ found .lower
   -- Within exactly when U is not L and 1000 × U ≤ ratio × L.
-  pub within-means : outcome ≡ Within → (upper ≡ lower → ⊥) × (1000 * upper ≤ ratio * lower)
-  pub within-when : (upper ≡ lower → ⊥) → 1000 * upper ≤ ratio * lower → outcome ≡ Within
+  pub within-means : found .outcome ≡ Within → (found .upper ≡ found .lower → ⊥) × (1000 * found .upper ≤ given .ratio * found .lower)
+  pub within-when : (found .upper ≡ found .lower → ⊥) → 1000 * found .upper ≤ given .ratio * found .lower → found .outcome ≡ Within
   -- Spent exactly when neither, and then all of the budget was used.
-  pub spent-means : outcome ≡ Spent → (upper ≡ lower → ⊥) × (ratio * lower < 1000 * upper)
-  pub spent-when : (upper ≡ lower → ⊥) → ratio * lower < 1000 * upper → outcome ≡ Spent
-  pub spent-splits : outcome ≡ Spent → splits ≡ budget
-  pub splits-within : splits ≤ budget
+  pub spent-means : found .outcome ≡ Spent → (found .upper ≡ found .lower → ⊥) × (given .ratio * found .lower < 1000 * found .upper)
+  pub spent-when : (found .upper ≡ found .lower → ⊥) → given .ratio * found .lower < 1000 * found .upper → found .outcome ≡ Spent
+  pub spent-splits : found .outcome ≡ Spent → found .splits ≡ given .budget
+  pub splits-within : found .splits ≤ given .budget
   -- With N the product, over the inputs, of how many excitations byte 18 allows: a budget of at least N − 1 never ends spent.
-  pub budget-enough : patternCount file ≤ budget + 1 → outcome ≡ Spent → ⊥
+  pub budget-enough : patternCount (given .file) ≤ given .budget + 1 → found .outcome ≡ Spent → ⊥
 
 -- The third demand: every accepted search agrees with every accepted simulation of the same file and table.
 abbrev pub Agreement : Type 0
-Agreement = (file : File) (hops : ℕ) (table : List ℕ) (ratio budget : ℕ) (sheet pattern work store : List ℕ)
-    (outcome : Outcome) (upper lower splits cases : ℕ) (sheet′ pattern′ work′ store′ : List ℕ)
-    → Searched file hops table ratio budget sheet pattern work store (Found outcome upper lower splits cases) sheet′ pattern′ work′ store′
-    → Agrees file table ratio budget outcome upper lower splits sheet′ pattern′
+Agreement = (given : SearchArguments) (found : Found) (sheet′ pattern′ work′ store′ : List ℕ)
+    → Searched given (search.Found found) sheet′ pattern′ work′ store′ → Agrees given found sheet′ pattern′

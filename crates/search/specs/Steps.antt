@@ -1,6 +1,6 @@
 -- What the functions of the search ask and promise (for document 01, "Search"), step by step: a case made, a case split, the whole run,
 -- the sheet.
-use Prim.Native.Nat.{ℕ, _+_, _*_, _-_, _≤_, _<_, _^_, max}
+use Prim.Native.Nat.{ℕ, _+_, _*_, _-_, _≤_, _<_, max}
 use mathlib.Core.Bool.{true, false}
 use mathlib.Core.List.{List}
 use mathlib.Core.Path.{_≡_}
@@ -8,31 +8,31 @@ use lib.ListN.{length, getD, set}
 use Rattle.excitation.specs.Excitation.{excitationOf, patternOf}
 use Rattle.excitation.specs.UncertaintySet.{member, code, decode, single}
 use Rattle.block.specs.Block.{frame, coneSize}
+use Rattle.block.specs.Limits.{dropLimit}
 use Rattle.block.specs.Record.{File}
 use Rattle.current.specs.Current.{sheetWords}
 use Rattle.cases.specs.Records.{casesIn, HasCases}
 use Rattle.cases.specs.Search.{Best, State, SearchEnd, greatestUpper, firstState, nextSplit, split, searchFrom}
 use Rattle.cases.specs.Store.{storeWith, patternWith}
-use Rattle.cases.specs.declared.Outcome.{Outcome}
 use Rattle.bounds.specs.Bounds.{simulatedDrop, envelopeDrop, sheetOver, CaseMade}
-use Rattle.search.specs.Search.{chooseIn, searchOf, foundAnswer}
-use Rattle.search.specs.declared.Ended.{Ended}
-use Rattle.search.specs.declared.SearchAnswer.{SearchAnswer}
+use Rattle.evaluation.specs.declared.Setting.{Setting}
+use Rattle.operation.specs.declared.Found.{Found}
+use Rattle.search.specs.Search.{SearchArguments, chooseIn, searchOf, foundBy}
 use Rattle.search.specs.declared.Step.{Step}
 
 -- The state of a search, as its buffers have it.
 unfoldable pub bestIn : ℕ → ℕ → List ℕ → Best
-bestIn inputs goal pattern = record { lower = goal - 1; pattern = patternOf inputs pattern }
+bestIn inputs threshold pattern = record { lower = threshold - 1; pattern = patternOf inputs pattern }
 
 unfoldable pub stateIn : ℕ → ℕ → ℕ → List ℕ → List ℕ → State
-stateIn inputs n goal store pattern = record { cases = casesIn inputs store n; best = bestIn inputs goal pattern }
+stateIn inputs n threshold store pattern = record { cases = casesIn inputs store n; best = bestIn inputs threshold pattern }
 
 -- The buffers of a search under way, with n cases.
-pub record Running (inputs n goal : ℕ) (store pattern : List ℕ) : Type 0 where
+pub record Running (inputs n threshold : ℕ) (store pattern : List ℕ) : Type 0 where
   pub cases : HasCases inputs store n
   pub some : 1 ≤ n
-  pub goal-low : 1 ≤ goal
-  pub goal-high : goal ≤ 2 ^ 46
+  pub threshold-low : 1 ≤ threshold
+  pub threshold-high : threshold ≤ dropLimit
   pub pattern-long : length pattern ≡ 64
   pub pattern-low : (net : ℕ) → net < inputs → getD pattern net 0 ≤ 3
 
@@ -44,10 +44,10 @@ pub record PastKept (inputs n : ℕ) (store pattern store′ pattern′ : List �
   pub pattern-past : (j : ℕ) → inputs ≤ j → getD pattern′ j 0 ≡ getD pattern j 0
 
 -- The first case made, the whole frame: the state of the search, and its buffers.
-pub record FirstMade (file : File) (inputs hops : ℕ) (table store pattern : List ℕ) (goal : ℕ) (store′ pattern′ : List ℕ) : Type 0 where
-  pub state : stateIn inputs 1 goal store′ pattern′ ≡ firstState (simulatedDrop file table) (envelopeDrop file hops table) (frame file)
-  pub running : Running inputs 1 goal store′ pattern′
-  pub past : PastKept inputs 1 store pattern store′ pattern′
+pub record FirstMade (file : File) (setting : Setting) (table store pattern : List ℕ) (threshold : ℕ) (store′ pattern′ : List ℕ) : Type 0 where
+  pub state : stateIn (setting .inputs) 1 threshold store′ pattern′ ≡ firstState (simulatedDrop file table) (envelopeDrop file (setting .hops) table) (frame file)
+  pub running : Running (setting .inputs) 1 threshold store′ pattern′
+  pub past : PastKept (setting .inputs) 1 store pattern store′ pattern′
 
 -- The sets of a child: those of its parent, but for the input that is split, which has one excitation.
 abbrev pub childCodes : List ℕ → ℕ → ℕ → List ℕ
@@ -55,11 +55,11 @@ childCodes parent input e = set parent input (code (single (excitationOf e)))
 
 -- A child made, where the parent's set at the input allows the excitation of byte e; else nothing changes. A child is put at the next
 -- place: the parent's for the first, past the cases for the others.
-pub record ChildMade (file : File) (inputs hops : ℕ) (table parent : List ℕ) (input e cap : ℕ) (step : Step) (store pattern : List ℕ)
+pub record ChildMade (file : File) (setting : Setting) (table parent : List ℕ) (input e cap : ℕ) (step : Step) (store pattern : List ℕ)
     (step′ : Step) (store′ pattern′ : List ℕ) : Type 0 where
   pub skipped : member (excitationOf e) (decode (getD parent input 0)) ≡ false → (step′ ≡ step) × (store′ ≡ store) × (pattern′ ≡ pattern)
   pub made : member (excitationOf e) (decode (getD parent input 0)) ≡ true
-      → CaseMade file inputs hops table (childCodes parent input e) cap (step .goal) (step .next .0) store pattern (step′ .goal) store′ pattern′
+      → CaseMade file setting table (childCodes parent input e) cap (step .threshold) (step .next .0) store pattern (step′ .threshold) store′ pattern′
   pub counted : member (excitationOf e) (decode (getD parent input 0)) ≡ true
       → (step′ .cases ≡ max (step .next .0 + 1) (step .cases)) × (step′ .next .0 ≡ step′ .cases)
 
@@ -74,35 +74,30 @@ pub record CaseToSplit (inputs n : ℕ) (store : List ℕ) (k upper : ℕ) : Typ
   pub greatest : upper ≡ greatestUpper (casesIn inputs store n)
 
 -- A case split.
-pub record CaseSplit (file : File) (inputs hops : ℕ) (table : List ℕ) (n goal : ℕ) (store pattern : List ℕ)
-    (n′ goal′ : ℕ) (store′ pattern′ : List ℕ) : Type 0 where
-  pub state : stateIn inputs n′ goal′ store′ pattern′
-      ≡ split (simulatedDrop file table) (envelopeDrop file hops table) (chooseIn file) (stateIn inputs n goal store pattern)
-  pub running : Running inputs n′ goal′ store′ pattern′
+pub record CaseSplit (file : File) (setting : Setting) (table : List ℕ) (n threshold : ℕ) (store pattern : List ℕ)
+    (n′ threshold′ : ℕ) (store′ pattern′ : List ℕ) : Type 0 where
+  pub state : stateIn (setting .inputs) n′ threshold′ store′ pattern′
+      ≡ split (simulatedDrop file table) (envelopeDrop file (setting .hops) table) (chooseIn file) (stateIn (setting .inputs) n threshold store pattern)
+  pub running : Running (setting .inputs) n′ threshold′ store′ pattern′
   pub more : n ≤ n′
   pub few : n′ ≤ n + 3
-  pub past : PastKept inputs n′ store pattern store′ pattern′
-
--- How a search ended.
-abbrev pub endedAt : Outcome → ℕ → ℕ → ℕ → ℕ → Ended
-endedAt outcome upper lower splits cases = record { outcome = outcome; upper = upper; lower = lower; splits = splits; cases = cases }
+  pub past : PastKept (setting .inputs) n′ store pattern store′ pattern′
 
 -- A run of the search from a state on, to its end.
-pub record Ran (file : File) (inputs hops : ℕ) (table : List ℕ) (ratio budget : ℕ) (start : State) (store pattern : List ℕ)
-    (ended : Ended) (store′ pattern′ : List ℕ) : Type 0 where
-  pub found : SearchEnd
-  pub is : found ≡ searchFrom (simulatedDrop file table) (envelopeDrop file hops table) (chooseIn file) ratio budget 0 start
-  pub outcome : ended .outcome ≡ found .outcome
-  pub upper : ended .upper ≡ greatestUpper (found .state .cases)
-  pub splits : ended .splits ≡ found .splits
-  pub state : stateIn inputs (ended .cases) (ended .lower + 1) store′ pattern′ ≡ found .state
-  pub running : Running inputs (ended .cases) (ended .lower + 1) store′ pattern′
-  pub past : PastKept inputs (ended .cases) store pattern store′ pattern′
+pub record Ran (file : File) (setting : Setting) (table : List ℕ) (ratio budget : ℕ) (start : State) (store pattern : List ℕ)
+    (found : Found) (store′ pattern′ : List ℕ) : Type 0 where
+  pub end : SearchEnd
+  pub is : end ≡ searchFrom (simulatedDrop file table) (envelopeDrop file (setting .hops) table) (chooseIn file) ratio budget 0 start
+  pub outcome : found .outcome ≡ end .outcome
+  pub upper : found .upper ≡ greatestUpper (end .state .cases)
+  pub splits : found .splits ≡ end .splits
+  pub state : stateIn (setting .inputs) (found .cases) (found .lower + 1) store′ pattern′ ≡ end .state
+  pub running : Running (setting .inputs) (found .cases) (found .lower + 1) store′ pattern′
+  pub past : PastKept (setting .inputs) (found .cases) store pattern store′ pattern′
 
 -- An accepted call's answer and buffers.
-pub record BlockSearched (file : File) (hops : ℕ) (table : List ℕ) (ratio budget : ℕ) (pattern store : List ℕ)
-    (answer : SearchAnswer) (sheet′ pattern′ store′ : List ℕ) : Type 0 where
-  pub answered : answer ≡ foundAnswer (searchOf file hops table ratio budget)
-  pub sheet-written : sheet′ ≡ sheetWords (sheetOver file hops (searchOf file hops table ratio budget .state .cases))
-  pub pattern-written : pattern′ ≡ patternWith (searchOf file hops table ratio budget .state .best .pattern) pattern
-  pub store-written : store′ ≡ storeWith (searchOf file hops table ratio budget .state .cases) store
+pub record BlockSearched (given : SearchArguments) (found : Found) (sheet′ pattern′ store′ : List ℕ) : Type 0 where
+  pub answered : found ≡ foundBy (searchOf given)
+  pub sheet-written : sheet′ ≡ sheetWords (sheetOver (given .file) (given .hops) (searchOf given .state .cases))
+  pub pattern-written : pattern′ ≡ patternWith (searchOf given .state .best .pattern) (given .pattern)
+  pub store-written : store′ ≡ storeWith (searchOf given .state .cases) (given .store)

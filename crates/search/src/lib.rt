@@ -2,19 +2,19 @@
 ghost use mathlib.Core.Path.{_≡_};
 ghost use Prim.Native.Nat.{_+_, _*_, _≤_};
 ghost use lib.ListN.{length};
-ghost use Rattle.bounds.specs.Bounds.{Searchable};
+ghost use Rattle.evaluation.specs.Evaluation.{Evaluable};
 ghost use Rattle.search.specs.Search.{Searched};
 ghost use Rattle.search.specs.Steps.{FirstMade, BlockSearched};
 use block::ReadAnswer;
-use block::Refusal;
 use block::Verdict;
-use bounds::Setting;
 use bounds::make;
 use bounds::sheet;
 use cases::CaseNumber;
-use cases::Outcome;
 use cases::choice;
 use current::Word;
+use evaluation::Setting;
+use operation::Found;
+use operation::SearchAnswer;
 
 mod arguments;
 mod run;
@@ -24,28 +24,7 @@ mod split;
 struct Step {
     cases: usize,
     next: CaseNumber,
-    goal: u64,
-}
-
-// How a search ended: its outcome, U, L, how many cases were split and how many there are.
-struct Ended {
-    outcome: Outcome,
-    upper: u64,
-    lower: u64,
-    splits: u64,
-    cases: usize,
-}
-
-// What Search answers.
-pub enum SearchAnswer {
-    Found {
-        outcome: Outcome,
-        upper: u64,
-        lower: u64,
-        splits: u64,
-        cases: u64,
-    },
-    Refused(Refusal),
+    threshold: u64,
 }
 
 // Above every upper number: the cap of the first case, which has no parent.
@@ -61,8 +40,8 @@ fn make_first(
     work: &mut [u8],
     store: &mut [u8],
 ) -> u64
-    requires { ⌜ Searchable (now file) (setting .nets) (setting .inputs) (setting .hops) (now sheet) (now work) × (length (now pattern) ≡ 64) × (72 ≤ length (now store)) ⌝ }
-    ensures { λ r. ⌜ FirstMade (now (file .entry)) (setting .inputs) (setting .hops) (now (table .entry)) (now (store .entry)) (now (pattern .entry)) r (now (store .exit)) (now (pattern .exit)) ⌝ }
+    requires { ⌜ Evaluable (now file) setting (now sheet) (now work) × (length (now pattern) ≡ 64) × (72 ≤ length (now store)) ⌝ }
+    ensures { λ r. ⌜ FirstMade (now (file .entry)) setting (now (table .entry)) (now (store .entry)) (now (pattern .entry)) r (now (store .exit)) (now (pattern .exit)) ⌝ }
 {
     let mut codes = [0u8; 64];
     block::frame_codes(file, setting.inputs, &mut codes);
@@ -92,36 +71,36 @@ fn search_block(
     pattern: &mut [u8],
     work: &mut [u8],
     store: &mut [u8],
-) -> SearchAnswer
-    requires { ⌜ Searchable (now file) (setting .nets) (setting .inputs) (setting .hops) (now sheet) (now work) × (length (now pattern) ≡ 64) × (ratio ≤ 10000) × (budget ≤ 10000) × (72 * (1 + 3 * budget) ≤ length (now store)) ⌝ }
-    ensures { λ r. ⌜ BlockSearched (now (file .entry)) (setting .hops) (now (table .entry)) ratio budget (now (pattern .entry)) (now (store .entry)) r (now (sheet .exit)) (now (pattern .exit)) (now (store .exit)) ⌝ }
+) -> Found
+    requires { ⌜ Evaluable (now file) setting (now sheet) (now work) × (length (now pattern) ≡ 64) × (ratio ≤ 10000) × (budget ≤ 10000) × (72 * (1 + 3 * budget) ≤ length (now store)) ⌝ }
+    ensures { λ r. ⌜ BlockSearched (record { file = now (file .entry); hops = setting .hops; table = now (table .entry); ratio = ratio; budget = budget; sheet = now (sheet .entry); pattern = now (pattern .entry); work = now (work .entry); store = now (store .entry) }) r (now (sheet .exit)) (now (pattern .exit)) (now (store .exit)) ⌝ }
 {
-    let goal = make_first(file, setting, table, sheet, pattern, work, store);
+    let threshold = make_first(file, setting, table, sheet, pattern, work, store);
     let mut cones = [0u16; 64];
     choice::write_cones(file, setting.nets, setting.inputs, &mut cones);
-    let ended = run::run(
+    let found = run::run(
         file,
         setting,
         table,
         &cones,
         ratio,
         budget,
-        goal,
+        threshold,
         sheet,
         pattern,
         work,
         store,
     );
-    let outcome = ended.outcome;
-    let cases = ended.cases;
-    sheet::draw_cases(file, setting, table, store, cases, sheet, work);
-    SearchAnswer::Found {
-        outcome,
-        upper: ended.upper,
-        lower: ended.lower,
-        splits: ended.splits,
-        cases: cases as u64,
-    }
+    sheet::draw_cases(
+        file,
+        setting,
+        table,
+        store,
+        found.cases as usize,
+        sheet,
+        work,
+    );
+    found
 }
 
 // Search: the checks in order, then the best-first search of the block's frame.
@@ -136,7 +115,7 @@ pub fn search(
     work: &mut [u8],
     store: &mut [u8],
 ) -> SearchAnswer
-    ensures { λ r. ⌜ Searched (now (file .entry)) hops (now (table .entry)) ratio budget (now (sheet .entry)) (now (pattern .entry)) (now (work .entry)) (now (store .entry)) r (now (sheet .exit)) (now (pattern .exit)) (now (work .exit)) (now (store .exit)) ⌝ }
+    ensures { λ r. ⌜ Searched (record { file = now (file .entry); hops = hops; table = now (table .entry); ratio = ratio; budget = budget; sheet = now (sheet .entry); pattern = now (pattern .entry); work = now (work .entry); store = now (store .entry) }) r (now (sheet .exit)) (now (pattern .exit)) (now (work .exit)) (now (store .exit)) ⌝ }
 {
     match block::read(file) {
         ReadAnswer::Refused(r) => SearchAnswer::Refused(r),
@@ -159,7 +138,7 @@ pub fn search(
                         inputs: inputs as usize,
                         hops: hops as usize,
                     };
-                    search_block(
+                    SearchAnswer::Found(search_block(
                         file,
                         setting,
                         table,
@@ -169,7 +148,7 @@ pub fn search(
                         pattern,
                         work,
                         store,
-                    )
+                    ))
                 }
             }
         }

@@ -2,25 +2,25 @@
 ghost use mathlib.Core.Path.{_≡_};
 ghost use Prim.Native.Nat.{_+_, _*_, _≤_, _<_};
 ghost use lib.ListN.{length};
-ghost use Rattle.bounds.specs.Bounds.{Searchable};
-ghost use Rattle.search.specs.Steps.{Running, Cones, stateIn, endedAt, Ran};
-use super::Ended;
+ghost use Rattle.evaluation.specs.Evaluation.{Evaluable};
+ghost use Rattle.search.specs.Steps.{Running, Cones, stateIn, Ran};
 use super::split;
-use bounds::Setting;
-use cases::Outcome;
 use cases::store;
 use current::Word;
+use evaluation::Setting;
+use operation::Found;
+use operation::Outcome;
 
-// How a search ended.
-fn ended(outcome: Outcome, upper: u64, lower: u64, splits: u64, cases: usize) -> Ended
-    ensures { λ r. ⌜ r ≡ endedAt outcome upper lower splits cases ⌝ }
+// What a search found, with so many cases in the store.
+fn ended(outcome: Outcome, upper: u64, lower: u64, splits: u64, cases: usize) -> Found
+    ensures { λ r. ⌜ r ≡ record { outcome = outcome; upper = upper; lower = lower; splits = splits; cases = cases } ⌝ }
 {
-    Ended {
+    Found {
         outcome,
         upper,
         lower,
         splits,
-        cases,
+        cases: cases as u64,
     }
 }
 
@@ -32,20 +32,20 @@ pub fn run(
     cones: &[u16],
     ratio: u64,
     budget: u64,
-    goal: u64,
+    threshold: u64,
     sheet: &mut [Word],
     pattern: &mut [u8],
     work: &mut [u8],
     store: &mut [u8],
-) -> Ended
-    requires { ⌜ Searchable (now file) (setting .nets) (setting .inputs) (setting .hops) (now sheet) (now work) × Running (setting .inputs) 1 goal (now store) (now pattern) × Cones (now file) (setting .inputs) (now cones) × (length (now cones) ≡ 64) × (ratio ≤ 10000) × (budget ≤ 10000) × (72 * (1 + 3 * budget) ≤ length (now store)) ⌝ }
-    ensures { λ r. ⌜ Ran (now (file .entry)) (setting .inputs) (setting .hops) (now (table .entry)) ratio budget (stateIn (setting .inputs) 1 goal (now (store .entry)) (now (pattern .entry))) (now (store .entry)) (now (pattern .entry)) r (now (store .exit)) (now (pattern .exit)) ⌝ }
+) -> Found
+    requires { ⌜ Evaluable (now file) setting (now sheet) (now work) × Running (setting .inputs) 1 threshold (now store) (now pattern) × Cones (now file) (setting .inputs) (now cones) × (length (now cones) ≡ 64) × (ratio ≤ 10000) × (budget ≤ 10000) × (72 * (1 + 3 * budget) ≤ length (now store)) ⌝ }
+    ensures { λ r. ⌜ Ran (now (file .entry)) setting (now (table .entry)) ratio budget (stateIn (setting .inputs) 1 threshold (now (store .entry)) (now (pattern .entry))) (now (store .entry)) (now (pattern .entry)) r (now (store .exit)) (now (pattern .exit)) ⌝ }
 {
     let mut cases: usize = 1;
-    let mut best = goal;
+    let mut best = threshold;
     let mut splits: u64 = 0;
     loop {
-        let k = store::first_greatest(store, cases);
+        let k = store::argmax(store, cases);
         let upper = store::upper(store, k);
         let lower = best - 1;
         if upper == lower {
@@ -72,7 +72,7 @@ pub fn run(
             store,
         );
         cases = step.cases;
-        best = step.goal;
+        best = step.threshold;
         splits += 1;
     }
 }

@@ -3,16 +3,16 @@ ghost use mathlib.Core.Path.{_≡_};
 ghost use Prim.Native.Nat.{_+_, _*_, _≤_, _<_};
 ghost use lib.ListN.{length};
 ghost use Rattle.cases.specs.Records.{HasCase, SetCodes};
-ghost use Rattle.bounds.specs.Bounds.{Searchable};
+ghost use Rattle.evaluation.specs.Evaluation.{Evaluable};
 ghost use Rattle.search.specs.Steps.{childCodes, ChildMade, Running, Cones, CaseToSplit, CaseSplit};
 use super::Step;
 use block::Net;
-use bounds::Setting;
 use bounds::make;
 use cases::CaseNumber;
 use cases::choice;
 use cases::store;
 use current::Word;
+use evaluation::Setting;
 use excitation::Set;
 
 // The codes of a child's sets: those of its parent, but for the input that is split, whose set has the excitation of byte e alone.
@@ -42,8 +42,8 @@ fn make_child(
     work: &mut [u8],
     store: &mut [u8],
 ) -> Step
-    requires { ⌜ Searchable (now file) (setting .nets) (setting .inputs) (setting .hops) (now sheet) (now work) × (length (now parent) ≡ 64) × SetCodes (setting .inputs) (now parent) × (input .0 < setting .inputs) × (e < 4) × (length (now pattern) ≡ 64) × HasCase (now store) (step .next .0) × (step .cases ≤ 30001) ⌝ }
-    ensures { λ r. ⌜ ChildMade (now (file .entry)) (setting .inputs) (setting .hops) (now (table .entry)) (now (parent .entry)) (input .0) e cap step (now (store .entry)) (now (pattern .entry)) r (now (store .exit)) (now (pattern .exit)) ⌝ }
+    requires { ⌜ Evaluable (now file) setting (now sheet) (now work) × (length (now parent) ≡ 64) × SetCodes (setting .inputs) (now parent) × (input .0 < setting .inputs) × (e < 4) × (length (now pattern) ≡ 64) × HasCase (now store) (step .next .0) × (step .cases ≤ 30001) ⌝ }
+    ensures { λ r. ⌜ ChildMade (now (file .entry)) setting (now (table .entry)) (now (parent .entry)) (input .0) e cap step (now (store .entry)) (now (pattern .entry)) r (now (store .exit)) (now (pattern .exit)) ⌝ }
 {
     let net = input.0;
     let set = Set { code: parent[net] };
@@ -52,24 +52,24 @@ fn make_child(
     }
     let codes = child_codes(parent, input, e);
     let next = step.next;
-    let goal = make::make_case(
+    let threshold = make::make_case(
         file,
         setting,
         table,
         &codes,
         cap,
-        step.goal,
+        step.threshold,
         next,
         sheet,
         pattern,
         work,
         store,
     );
-    let cases = block::greater(next.0 + 1, step.cases);
+    let cases = numbers::max_usize(next.0 + 1, step.cases);
     Step {
         cases,
         next: CaseNumber(cases),
-        goal,
+        threshold,
     }
 }
 
@@ -82,14 +82,14 @@ pub fn split(
     k: CaseNumber,
     cap: u64,
     n: usize,
-    goal: u64,
+    threshold: u64,
     sheet: &mut [Word],
     pattern: &mut [u8],
     work: &mut [u8],
     store: &mut [u8],
 ) -> Step
-    requires { ⌜ Searchable (now file) (setting .nets) (setting .inputs) (setting .hops) (now sheet) (now work) × Running (setting .inputs) n goal (now store) (now pattern) × CaseToSplit (setting .inputs) n (now store) (k .0) cap × Cones (now file) (setting .inputs) (now cones) × (length (now cones) ≡ 64) × (72 * (n + 3) ≤ length (now store)) × (n + 3 ≤ 30001) ⌝ }
-    ensures { λ r. ⌜ CaseSplit (now (file .entry)) (setting .inputs) (setting .hops) (now (table .entry)) n goal (now (store .entry)) (now (pattern .entry)) (r .cases) (r .goal) (now (store .exit)) (now (pattern .exit)) ⌝ }
+    requires { ⌜ Evaluable (now file) setting (now sheet) (now work) × Running (setting .inputs) n threshold (now store) (now pattern) × CaseToSplit (setting .inputs) n (now store) (k .0) cap × Cones (now file) (setting .inputs) (now cones) × (length (now cones) ≡ 64) × (72 * (n + 3) ≤ length (now store)) × (n + 3 ≤ 30001) ⌝ }
+    ensures { λ r. ⌜ CaseSplit (now (file .entry)) setting (now (table .entry)) n threshold (now (store .entry)) (now (pattern .entry)) (r .cases) (r .threshold) (now (store .exit)) (now (pattern .exit)) ⌝ }
 {
     let mut parent = [0u8; 64];
     store::read_sets(store, k, &mut parent);
@@ -97,7 +97,7 @@ pub fn split(
     let mut step = Step {
         cases: n,
         next: k,
-        goal,
+        threshold,
     };
     let mut e: u8 = 0;
     while e < 4 {

@@ -1,11 +1,10 @@
 -- `search::search` meets its contract.
 -- Assumes nothing.
 use mathlib.Core.Path.{sym, _∙_}
-use borrow.Author.Needs.{needs}
-use Rattle.block.proofs.Verdicts.{both-accepted}
-use Rattle.evaluation.proofs.Operations.{file-accepted}
-use Rattle.search.proofs.Accepted.{limits-right, buffers-right}
+use Rattle.operation.proofs.Operations.{file-accepted}
+use Rattle.search.proofs.Accepted.{arguments-right}
 use Rattle.search.proofs.Answers.{file-refused, argument-refused, call-accepted}
+use borrow.Author.Needs.{needs}
 use Rattle.search.proofs.search.Statement.{statement}
 use Rattle.search.proofs.search.Tie as tie
 
@@ -19,7 +18,7 @@ enum-known-nets : tie.Need-enum-known-nets
 enum-known-nets c = search needs
 
 check-arguments-requires : tie.Need-check-arguments-requires
-check-arguments-requires c κs = file-accepted (c .before .before .before .read .ensures) (c .before .nets .given .1) .few-nets
+check-arguments-requires c κs = search needs
 
 enum-known-r-2 : tie.Need-enum-known-r-2
 enum-known-r-2 c = search needs
@@ -29,31 +28,25 @@ enum-told c = search needs
 
 search-block-requires : tie.Need-search-block-requires
 search-block-requires c κs =
-    let told = c .before .before .before .before in
-    let file = file-accepted (told .before .before .before .before .before .before .read .ensures) (told .before .before .before .before .nets .given .1) in
-    let both = both-accepted _ _ (sym (told .before .before .check-arguments .ensures) ∙ told .enum-told .given .1) in
-    let limits = limits-right _ _ _ _ (both .0) in
-    let buffers = buffers-right _ _ _ _ _ _ (both .1) in (
+    let file = file-accepted (c .before .before .before .before .before .before .before .before .before .before .read .ensures) (c .before .before .before .before .before .before .before .before .nets .given .1) in
+    let right = arguments-right _ _ _ _ _ _ _ _ _ (sym (c .before .before .before .before .before .before .check-arguments .ensures) ∙ c .before .before .before .before .enum-told .given .1) in (
       record {
         accepted = file;
-        some-hops = limits .some-hops;
-        sheet-long = buffers .sheet-long;
-        rows = record { whole = buffers .work-long; numbered = file .few-nets };
+        some-hops = right .some-hops;
+        sheet-long = right .sheet-long;
+        rows = record { whole = right .work-long; numbered = file .few-nets };
       },
-      buffers .pattern-long,
-      limits .ratio-high,
-      limits .budget-high,
-      buffers .store-long,
+      right .pattern-long,
+      right .ratio-high,
+      right .budget-high,
+      right .store-long,
     )
 
 returns : tie.Need-returns
-returns c = file-refused _ _ _ _ _ _ _ _ _ (c .before .before .before .read .ensures) _ (c .before .r .given .1)
+returns c = file-refused _ (c .before .before .before .read .ensures) _ (c .before .r .given .1)
 
 returns-2 : tie.Need-returns-2
-returns-2 c =
-    let told = c .before .before .before in
-    argument-refused _ _ _ _ _ _ _ _ _ (told .before .before .before .before .read .ensures) _ _ (told .before .before .nets .given .1) (told .check-arguments .ensures) _
-    (c .before .r2 .given .1)
+returns-2 c = argument-refused _ (c .before .before .before .before .before .before .before .read .ensures) _ _ (c .before .before .before .before .before .nets .given .1) (c .before .before .before .check-arguments .ensures) _ (c .before .r2 .given .1)
 
 same-length : tie.Need-same-length
 same-length c = search needs
@@ -68,10 +61,7 @@ same-length-4 : tie.Need-same-length-4
 same-length-4 c = search needs
 
 returns-3 : tie.Need-returns-3
-returns-3 c =
-    let told = c .before .before .before .before .before .before .before .before .before .before .before .before .before in
-    call-accepted _ _ _ _ _ _ _ _ _ (told .before .before .before .before .before .before .read .ensures) _ _ (told .before .before .before .before .nets .given .1)
-    (told .before .before .check-arguments .ensures) _ _ _ _ _ (told .enum-told .given .1) (c .before .before .before .before .before .before .before .before .search-block .ensures)
+returns-3 c = call-accepted _ (c .before .before .before .before .before .before .before .before .before .before .before .before .before .before .before .before .before .before .before .read .ensures) _ _ (c .before .before .before .before .before .before .before .before .before .before .before .before .before .before .before .before .before .nets .given .1) (c .before .before .before .before .before .before .before .before .before .before .before .before .before .before .before .check-arguments .ensures) _ _ _ _ _ (c .before .before .before .before .before .before .before .before .before .before .before .before .before .enum-told .given .1) (c .before .before .before .before .before .before .before .before .search-block .ensures)
 
 pub search-spec : {M : Type 1} → statement M
 search-spec =

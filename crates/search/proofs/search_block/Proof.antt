@@ -1,13 +1,13 @@
 -- `search::search_block` meets its contract.
 -- Assumes nothing.
 use Prim.Native.Nat.{ℕ}
-use mathlib.Core.Path.{_∙_}
+use mathlib.Core.Path.{refl, _∙_}
 use native.Mathlib.Omega.{arith}
 use lib.ListN.{length-replicate}
-use borrow.Author.Needs.{needs}
 use Rattle.laws.proofs.Rewritten.{rewritten-first}
-use Rattle.bounds.proofs.Making.{searchable-kept}
+use Rattle.evaluation.proofs.Given.{evaluable-kept}
 use Rattle.search.proofs.Answers.{block-searched}
+use borrow.Author.Needs.{needs}
 use Rattle.search.proofs.search_block.Statement.{statement}
 use Rattle.search.proofs.search_block.Tie as tie
 
@@ -25,61 +25,40 @@ slice-aggregate-run c = search needs
 
 run-requires : tie.Need-run-requires
 run-requires c κs =
-    let counted = c .before .before .before .before .before .before in
-    let made = counted .before .before .before .before .before .before .before .before .before .before in
-    let s = made .before .before .before .before .before .before .before .before .before .before .before in
-    let kept = made .make-first .kept .1 .1 .1 in (
-      searchable-kept (s .pre .0) (kept .0) (kept .1 .1 .0),
-      made .make-first .ensures .running,
-      rewritten-first _ _ _ _ (counted .write-cones .ensures),
-      counted .write-cones .ensures .long ∙ length-replicate {A = ℕ} 64 0,
+    let s = c .before .before .before .before .before .before .before .before .before .before .before .before .before .before .before .before .before .before .before .before .before .before .before .before .before .before .before in
+    let made = c .before .before .before .before .before .before .before .before .before .before .before .before .before .before .before .before .make-first in
+    let counted = c .before .before .before .before .before .before .write-cones .ensures in
+    let kept = made .kept .1 .1 .1 in (
+      evaluable-kept (s .pre .0) (kept .0) (kept .1 .1 .0),
+      made .ensures .running,
+      rewritten-first _ _ _ _ counted,
+      counted .long ∙ length-replicate {A = ℕ} 64 0,
       s .pre .2,
       s .pre .3,
-      omega (arith, s .pre .4, made .make-first .ensures .past .store-long),
+      omega (arith, s .pre .4, made .ensures .past .store-long),
     )
 
 draw-cases-requires : tie.Need-draw-cases-requires
 draw-cases-requires c κs =
-    let ran = c .before .before .before .before .before .before .before .before .before .before .before in
-    let made = ran .before .before .before .before .before .before .before .before .before .before .before .before .before .before .before .before .before in
-    let s = made .before .before .before .before .before .before .before .before .before .before .before in
-    let kept = made .make-first .kept .1 .1 .1 in
-    let then = ran .run .kept .1 .1 .1 .1 .1 .1 .1 in
-    (searchable-kept (s .pre .0) (then .0 ∙ kept .0) (then .1 .1 .0 ∙ kept .1 .1 .0), ran .run .ensures .running .cases)
+    let s = c .before .before .before .before .before .before .before .before .before .before .before .before .before .before .before .before .before .before .before .before .before .before .before .before .before .before .before .before .before .before .before .before .before .before .before .before .before .before .before in
+    let kept = c .before .before .before .before .before .before .before .before .before .before .before .before .before .before .before .before .before .before .before .before .before .before .before .before .before .before .before .before .make-first .kept .1 .1 .1 in
+    let then = c .before .before .before .before .before .before .before .before .before .before .before .run .kept .1 .1 .1 .1 .1 .1 .1 in
+    (evaluable-kept (s .pre .0) (then .0 ∙ kept .0) (then .1 .1 .0 ∙ kept .1 .1 .0), c .before .before .before .before .before .before .before .before .before .before .before .run .ensures .running .cases)
 
 same-length : tie.Need-same-length
-same-length c =
-    let drawn = c .before .before .before .before in
-    let ran = drawn .before .before .before .before .before .before .before .before .before .before .before .before in
-    let made = ran .before .before .before .before .before .before .before .before .before .before .before .before .before .before .before .before .before in
-    drawn .draw-cases .kept .1 .1 .1 .1 .1 .0 ∙ ran .run .kept .1 .1 .1 .1 .1 .1 .1 .0 ∙ made .make-first .kept .1 .1 .1 .0
+same-length c = c .before .before .before .before .draw-cases .kept .1 .1 .1 .1 .1 .0 ∙ c .before .before .before .before .before .before .before .before .before .before .before .before .before .before .before .before .run .kept .1 .1 .1 .1 .1 .1 .1 .0 ∙ c .before .before .before .before .before .before .before .before .before .before .before .before .before .before .before .before .before .before .before .before .before .before .before .before .before .before .before .before .before .before .before .before .before .make-first .kept .1 .1 .1 .0
 
 same-length-2 : tie.Need-same-length-2
-same-length-2 c =
-    let ran = c .before .before .before .before .before .before .before .before .before .before .before .before .before .before .before .before in
-    let made = ran .before .before .before .before .before .before .before .before .before .before .before .before .before .before .before .before .before in
-    ran .run .kept .1 .1 .1 .1 .1 .1 .1 .1 .0 ∙ made .make-first .kept .1 .1 .1 .1 .0
+same-length-2 c = c .before .before .before .before .before .before .before .before .before .before .before .before .before .before .before .before .run .kept .1 .1 .1 .1 .1 .1 .1 .1 .0 ∙ c .before .before .before .before .before .before .before .before .before .before .before .before .before .before .before .before .before .before .before .before .before .before .before .before .before .before .before .before .before .before .before .before .before .make-first .kept .1 .1 .1 .1 .0
 
 same-length-3 : tie.Need-same-length-3
-same-length-3 c =
-    let drawn = c .before .before .before .before in
-    let ran = drawn .before .before .before .before .before .before .before .before .before .before .before .before in
-    let made = ran .before .before .before .before .before .before .before .before .before .before .before .before .before .before .before .before .before in
-    drawn .draw-cases .kept .1 .1 .1 .1 .1 .1 .0 ∙ ran .run .kept .1 .1 .1 .1 .1 .1 .1 .1 .1 .0 ∙ made .make-first .kept .1 .1 .1 .1 .1 .0
+same-length-3 c = c .before .before .before .before .draw-cases .kept .1 .1 .1 .1 .1 .1 .0 ∙ c .before .before .before .before .before .before .before .before .before .before .before .before .before .before .before .before .run .kept .1 .1 .1 .1 .1 .1 .1 .1 .1 .0 ∙ c .before .before .before .before .before .before .before .before .before .before .before .before .before .before .before .before .before .before .before .before .before .before .before .before .before .before .before .before .before .before .before .before .before .make-first .kept .1 .1 .1 .1 .1 .0
 
 same-length-4 : tie.Need-same-length-4
-same-length-4 c =
-    let ran = c .before .before .before .before .before .before .before .before .before .before .before .before .before .before .before .before in
-    let made = ran .before .before .before .before .before .before .before .before .before .before .before .before .before .before .before .before .before in
-    ran .run .kept .1 .1 .1 .1 .1 .1 .1 .1 .1 .1 .0 ∙ made .make-first .kept .1 .1 .1 .1 .1 .1 .0
+same-length-4 c = c .before .before .before .before .before .before .before .before .before .before .before .before .before .before .before .before .run .kept .1 .1 .1 .1 .1 .1 .1 .1 .1 .1 .0 ∙ c .before .before .before .before .before .before .before .before .before .before .before .before .before .before .before .before .before .before .before .before .before .before .before .before .before .before .before .before .before .before .before .before .before .make-first .kept .1 .1 .1 .1 .1 .1 .0
 
 returns : tie.Need-returns
-returns c =
-    let drawn = c .before .before .before .before in
-    let ran = drawn .before .before .before .before .before .before .before .before .before .before .before .before in
-    let made = ran .before .before .before .before .before .before .before .before .before .before .before .before .before .before .before .before .before in
-    let s = made .before .before .before .before .before .before .before .before .before .before .before in
-    block-searched (s .pre .0 .accepted) (made .make-first .ensures) (ran .run .ensures) (drawn .draw-cases .ensures)
+returns c = let s = c .before .before .before .before .before .before .before .before .before .before .before .before .before .before .before .before .before .before .before .before .before .before .before .before .before .before .before .before .before .before .before .before .before .before .before .before .before .before .before .before .before .before .before .before in block-searched _ (s .pre .0 .accepted) refl (c .before .before .before .before .before .before .before .before .before .before .before .before .before .before .before .before .before .before .before .before .before .before .before .before .before .before .before .before .before .before .before .before .before .make-first .ensures) (c .before .before .before .before .before .before .before .before .before .before .before .before .before .before .before .before .run .ensures) (c .before .before .before .before .draw-cases .ensures)
 
 pub search-block-spec : {M : Type 1} → statement M
 search-block-spec =

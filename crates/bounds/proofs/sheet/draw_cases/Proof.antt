@@ -5,7 +5,7 @@ use mathlib.Core.Path.{_≡_, refl, sym, _∙_}
 use native.Mathlib.Omega.{arith}
 use lib.ListN.{length, length-replicate}
 use Rattle.current.specs.Current.{sheetWords}
-use Rattle.bounds.proofs.Making.{searchable-kept}
+use Rattle.evaluation.proofs.Given.{evaluable-kept}
 use Rattle.current.proofs.Sheets.{sheet-long}
 use Rattle.cases.proofs.Records.{has-case}
 use Rattle.bounds.proofs.Sheets.{sheetOfCase, sheetBelow, none-drawn, next-drawn, all-drawn}
@@ -36,7 +36,7 @@ draw-case-requires c κs =
     let ready = start .pre .0 in
     let has = start .pre .1 in
     let inside = c .before .before .loop-test .taken in (
-      searchable-kept ready (loop .inv .2 ∙ sym (ready .sheet-long)) (loop .inv .1),
+      evaluable-kept ready (loop .inv .2 ∙ sym (ready .sheet-long)) (loop .inv .1),
       has-case has inside,
       has .codes (loop .k) inside,
     )

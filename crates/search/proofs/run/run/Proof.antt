@@ -7,30 +7,30 @@ use lib.ListN.{length}
 use Rattle.search.specs.Steps.{CaseToSplit}
 use borrow.Author.Needs.{needs}
 use Rattle.cases.proofs.Records.{has-case}
-use Rattle.bounds.proofs.Making.{searchable-kept}
+use Rattle.evaluation.proofs.Given.{evaluable-kept}
 use Rattle.search.proofs.Running.{Reached, reached-first, ran-as, split-room, upper-low, case-to-split, ratio-low, ends-exact, ends-within, ends-spent, reached-next}
 use Rattle.search.proofs.run.run.Statement.{statement}
 use Rattle.search.proofs.run.run.Tie as tie
 
 abbrev Inv-loop : tie.InvT-loop
-Inv-loop file setting table cones ratio budget goal sheet₀ pattern₀ work₀ store₀ cases₀ best₀ splits₀ sheet pattern work store cases best splits =
-    Reached file (setting .inputs) (setting .hops) table ratio budget goal store₀ pattern₀ cases best splits store pattern × (length sheet ≡ length sheet₀) × (length work ≡ length work₀)
+Inv-loop file setting table cones ratio budget threshold sheet₀ pattern₀ work₀ store₀ cases₀ best₀ splits₀ sheet pattern work store cases best splits =
+    Reached file setting table ratio budget threshold store₀ pattern₀ cases best splits store pattern × (length sheet ≡ length sheet₀) × (length work ≡ length work₀)
 
 abbrev μ-loop : tie.MeasureT-loop
-μ-loop file setting table cones ratio budget goal sheet₀ pattern₀ work₀ store₀ cases₀ best₀ splits₀ sheet pattern work store cases best splits =
+μ-loop file setting table cones ratio budget threshold sheet₀ pattern₀ work₀ store₀ cases₀ best₀ splits₀ sheet pattern work store cases best splits =
     budget - splits
 
 loop-holds : tie.Need-loop-holds Inv-loop μ-loop
 loop-holds c = (reached-first (c .before .before .before .before .before .before .before .pre .1), refl, refl)
 
-first-greatest-requires : tie.Need-first-greatest-requires Inv-loop μ-loop
-first-greatest-requires c κs = let r = c .before .loop .inv .0 .running in (r .cases .whole, r .some, r .cases .few)
+argmax-requires : tie.Need-argmax-requires Inv-loop μ-loop
+argmax-requires c κs = let r = c .before .loop .inv .0 .running in (r .cases .whole, r .some, r .cases .few)
 
 upper-requires : tie.Need-upper-requires Inv-loop μ-loop
-upper-requires c κs = has-case (c .before .before .before .loop .inv .0 .running .cases) (c .before .first-greatest .ensures .1)
+upper-requires c κs = has-case (c .before .before .before .loop .inv .0 .running .cases) (c .before .argmax .ensures .1)
 
 sub-lower : tie.Need-sub-lower Inv-loop μ-loop
-sub-lower c = c .before .before .before .before .loop .inv .0 .running .goal-low
+sub-lower c = c .before .before .before .before .loop .inv .0 .running .threshold-low
 
 ended-requires : tie.Need-ended-requires Inv-loop μ-loop
 ended-requires c κs = search needs
@@ -48,23 +48,23 @@ same-length-4 : tie.Need-same-length-4 Inv-loop μ-loop
 same-length-4 c = c .before .before .before .before .before .before .loop .inv .0 .past .store-long
 
 -- The case that the scans found.
-next-found : (c : tie.After-upper Inv-loop μ-loop) → CaseToSplit (c .before .before .before .before .before .before .before .before .before .before .before .before .args .setting .inputs) (c .before .before .before .before .loop .cases) (c .before .before .before .before .loop .store) (c .before .before .first-greatest .result .0) (c .upper .result)
+next-found : (c : tie.After-upper Inv-loop μ-loop) → CaseToSplit (c .before .before .before .before .before .before .before .before .before .before .before .before .args .setting .inputs) (c .before .before .before .before .loop .cases) (c .before .before .before .before .loop .store) (c .before .before .argmax .result .0) (c .upper .result)
 next-found c =
-    let found = c .before .before .first-greatest .ensures in
+    let found = c .before .before .argmax .ensures in
     case-to-split (c .before .before .before .before .loop .inv .0 .running) _ (found .1) _ (found .0) (c .upper .ensures)
 
 returns : tie.Need-returns Inv-loop μ-loop
 returns c = ran-as (c .ended .ensures) (ends-exact (c .before .before .before .before .before .before .loop .inv .0) (next-found (c .before .before)) (c .before .if1 .taken))
 
 mul-if2 : tie.Need-mul-if2 Inv-loop μ-loop
-mul-if2 c = record { fits = omega (arith, upper-low (c .before .before .before .before .before .loop .inv .0 .running) _ (c .before .before .before .first-greatest .ensures .1) _ (c .before .upper .ensures)) }
+mul-if2 c = record { fits = omega (arith, upper-low (c .before .before .before .before .before .loop .inv .0 .running) _ (c .before .before .before .argmax .ensures .1) _ (c .before .upper .ensures)) }
 
 mul-if2-2 : tie.Need-mul-if2-2 Inv-loop μ-loop
 mul-if2-2 c =
     let at = c .before .before .before .before .before in
     let running = at .loop .inv .0 .running in
     let s = at .before .before .before .before .before .before .before .before in
-    record { fits = omega (arith, ratio-low (s .args .ratio) (at .loop .best - 1) (s .pre .4) (omega (arith, running .goal-low, running .goal-high))) }
+    record { fits = omega (arith, ratio-low (s .args .ratio) (at .loop .best - 1) (s .pre .4) (omega (arith, running .threshold-low, running .threshold-high))) }
 
 ended-requires-2 : tie.Need-ended-requires-2 Inv-loop μ-loop
 ended-requires-2 c κs = search needs
@@ -108,7 +108,7 @@ split-requires c κs =
     let inv = found .before .before .before .before .loop .inv in
     let pre = found .before .before .before .before .before .before .before .before .before .before .before .before .pre in
     let space = split-room (inv .0) (c .before .before .before .before .if3 .left) (pre .5) (pre .6) in
-    (searchable-kept (pre .0) (inv .1) (inv .2), inv .0 .running, next-found found, pre .2, pre .3, space .0, space .1)
+    (evaluable-kept (pre .0) (inv .1) (inv .2), inv .0 .running, next-found found, pre .2, pre .3, space .0, space .1)
 
 add-splits : tie.Need-add-splits Inv-loop μ-loop
 add-splits c =
@@ -136,7 +136,7 @@ run-spec =
     Inv-loop
     μ-loop
     loop-holds
-    first-greatest-requires
+    argmax-requires
     upper-requires
     sub-lower
     ended-requires

@@ -39,11 +39,11 @@ make-case-requires c κs =
       s .pre .6,
     )
 
-add-greater : tie.Need-add-greater
-add-greater c = omega (arith, c .before .before .before .before .before .before .before .before .before .before .before .before .before .before .before .before .before .before .before .before .before .before .before .before .before .before .before .before .pre .6 .numbered)
+add-max-usize : tie.Need-add-max-usize
+add-max-usize c = omega (arith, c .before .before .before .before .before .before .before .before .before .before .before .before .before .before .before .before .before .before .before .before .before .before .before .before .before .before .before .before .pre .6 .numbered)
 
-greater-requires : tie.Need-greater-requires
-greater-requires c κs = search needs
+max-usize-requires : tie.Need-max-usize-requires
+max-usize-requires c κs = search needs
 
 same-length : tie.Need-same-length
 same-length c = search needs
@@ -63,7 +63,7 @@ returns-2 c =
     let coded = made .before .before .before .before .before .before .before in
     let tested = coded .before in
     child-made (tested .before .before .excitation-of .ensures) (tested .before .contains .ensures) (tested .if1 .left) (coded .child-codes .ensures)
-    (made .make-case .ensures) (c .greater .ensures)
+    (made .make-case .ensures) (c .max-usize .ensures)
 
 pub make-child-spec : {M : Type 1} → statement M
 make-child-spec =
@@ -76,8 +76,8 @@ make-child-spec =
     child-codes-requires
     slice-aggregate-make-case
     make-case-requires
-    add-greater
-    greater-requires
+    add-max-usize
+    max-usize-requires
     same-length
     same-length-2
     same-length-3

@@ -6,18 +6,18 @@ use native.Mathlib.Omega.{arith}
 use lib.ListN.{length, length-replicate}
 use borrow.Author.Needs.{needs}
 use Rattle.cases.proofs.Records.{codes-copied}
-use Rattle.bounds.proofs.Making.{searchable-kept}
+use Rattle.evaluation.proofs.Given.{evaluable-kept}
 use Rattle.search.proofs.Splitting.{Splitting, child-room, splitting-begun, splitting-next, case-split}
 use Rattle.search.proofs.split.split.Statement.{statement}
 use Rattle.search.proofs.split.split.Tie as tie
 
 abbrev Inv-loop : tie.InvT-loop
-Inv-loop file setting table cones cap n goal sheet₀ pattern₀ work₀ store₀ parent input step₀ e₀ sheet pattern work store step e =
+Inv-loop file setting table cones cap n threshold sheet₀ pattern₀ work₀ store₀ parent input step₀ e₀ sheet pattern work store step e =
     (e ≤ 4) × (length sheet ≡ length sheet₀) × (length work ≡ length work₀)
-    × Splitting file (setting .inputs) (setting .hops) table parent (input .0) (step₀ .next .0) cap n goal store₀ pattern₀ e (step .cases) (step .next .0) (step .goal) store pattern
+    × Splitting file setting table parent (input .0) (step₀ .next .0) cap n threshold store₀ pattern₀ e (step .cases) (step .next .0) (step .threshold) store pattern
 
 abbrev μ-loop : tie.MeasureT-loop
-μ-loop file setting table cones cap n goal sheet₀ pattern₀ work₀ store₀ parent input step₀ e₀ sheet pattern work store step e = 4 - e
+μ-loop file setting table cones cap n threshold sheet₀ pattern₀ work₀ store₀ parent input step₀ e₀ sheet pattern work store step e = 4 - e
 
 slice-aggregate-read-sets : tie.Need-slice-aggregate-read-sets Inv-loop μ-loop
 slice-aggregate-read-sets c = search needs
@@ -55,7 +55,7 @@ make-child-requires c κs =
     let copied = read .read-sets .ensures in
     let below = turn .loop-test .taken in
     let room = child-room (s .pre .2 .inside) below (s .pre .6) (s .pre .5) (at .inv .3) in (
-      searchable-kept ready (at .inv .1) (at .inv .2),
+      evaluable-kept ready (at .inv .1) (at .inv .2),
       copied .long ∙ length-replicate {A = ℕ} 64 0,
       codes-copied (s .args .setting .inputs) (ready .accepted .few-inputs) (s .args .store .now) (s .args .k .0) _ _ copied
           (s .pre .1 .cases .codes (s .args .k .0) (s .pre .2 .inside)),

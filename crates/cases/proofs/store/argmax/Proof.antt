@@ -1,4 +1,4 @@
--- `cases::store::first_greatest` meets its contract.
+-- `cases::store::argmax` meets its contract.
 -- Assumes nothing.
 use Prim.Native.Nat.{_-_, _≤_}
 use mathlib.Core.Logic.{⊎-elim}
@@ -7,8 +7,8 @@ use native.Mathlib.Omega.{arith}
 use borrow.Author.Needs.{needs}
 use Rattle.cases.specs.Records.{upperIn}
 use Rattle.laws.proofs.Greatest.{GreatestSoFar, greatest-one, greatest-replaced, greatest-kept}
-use Rattle.cases.proofs.store.first_greatest.Statement.{statement}
-use Rattle.cases.proofs.store.first_greatest.Tie as tie
+use Rattle.cases.proofs.store.argmax.Statement.{statement}
+use Rattle.cases.proofs.store.argmax.Tie as tie
 
 abbrev Inv-loop : tie.InvT-loop
 Inv-loop store n best₀ most₀ k₀ best most k = (1 ≤ k) × (k ≤ n) × GreatestSoFar (upperIn store) k best most
@@ -44,8 +44,8 @@ loop-again c = (
 returns : tie.Need-returns Inv-loop μ-loop
 returns c = let e : c .before .loop .k ≡ c .before .before .before .before .args .n = omega arith in let scanned = rw e at (c .before .loop .inv .2) in (scanned .first, scanned .inside)
 
-pub first-greatest-spec : {M : Type 1} → statement M
-first-greatest-spec =
+pub argmax-spec : {M : Type 1} → statement M
+argmax-spec =
     tie.close
     (tie.spec
     Inv-loop
