@@ -3,11 +3,12 @@ ghost use mathlib.Core.Path.{_≡_};
 ghost use Prim.Native.Nat.{_≤_};
 ghost use lib.ListN.{length};
 use block::ReadAnswer;
-use cases::Outcome;
 use current::Word;
 use libc::STDIN_FILENO;
 use libc::STDOUT_FILENO;
-use search::SearchAnswer;
+use operation::Found;
+use operation::Outcome;
+use operation::SearchAnswer;
 
 // The most bytes that the program takes: 256 records.
 const MOST: usize = 5120;
@@ -52,16 +53,17 @@ fn print_outcome(outcome: Outcome) {
 }
 
 // A line of outcome, U, L, splits, cases.
-fn print_answer(outcome: Outcome, upper: u64, lower: u64, splits: u64, cases: u64) {
+fn print_answer(found: Found) {
+    let outcome = found.outcome;
     print_outcome(outcome);
     print_blank();
-    io::print_decimal(STDOUT_FILENO, upper);
+    io::print_decimal(STDOUT_FILENO, found.upper);
     print_blank();
-    io::print_decimal(STDOUT_FILENO, lower);
+    io::print_decimal(STDOUT_FILENO, found.lower);
     print_blank();
-    io::print_decimal(STDOUT_FILENO, splits);
+    io::print_decimal(STDOUT_FILENO, found.splits);
     print_blank();
-    io::print_decimal(STDOUT_FILENO, cases);
+    io::print_decimal(STDOUT_FILENO, found.cases);
     print_end();
 }
 
@@ -119,14 +121,8 @@ fn estimate(file: &[u8], inputs: usize)
         &mut store,
     ) {
         SearchAnswer::Refused(r) => print_refusal(r.number, r.place),
-        SearchAnswer::Found {
-            outcome,
-            upper,
-            lower,
-            splits,
-            cases,
-        } => {
-            print_answer(outcome, upper, lower, splits, cases);
+        SearchAnswer::Found(found) => {
+            print_answer(found);
             print_pattern(&pattern, inputs);
         }
     }

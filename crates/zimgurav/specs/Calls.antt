@@ -3,28 +3,28 @@
 use Prim.Native.Nat.{ℕ}
 use mathlib.Core.List.{List}
 use mathlib.Core.Path.{_≡_}
-use Rattle.block.specs.Record.{File}
-use Rattle.evaluation.specs.Operation.{sheetAfter, WorkAfter, currentsNumbers}
-use Rattle.simulator.specs.Simulate.{simulateVerdict, simulateAnswer, patternSheet}
-use Rattle.envelope.specs.Envelope.{envelopeVerdict, envelopeAnswer, frameSheet}
-use Rattle.search.specs.Search.{Searched, searchNumbers}
-use Rattle.search.specs.declared.SearchAnswer.{SearchAnswer}
+use Rattle.operation.specs.Numbers.{currentsNumbers, searchNumbers}
+use Rattle.operation.specs.Operation.{bufferAfter, WorkAfter}
+use Rattle.operation.specs.declared.SearchAnswer.{SearchAnswer}
+use Rattle.current.specs.Current.{sheetWords}
+use Rattle.simulator.specs.Simulate as simulate
+use Rattle.envelope.specs.Envelope as envelope
+use Rattle.search.specs.Search.{SearchArguments, Searched}
 
 -- Envelope: the numbers of its answer, and its buffers.
-pub record EnvelopeCalled (file : File) (hops : ℕ) (table sheet work sheet′ work′ numbers : List ℕ) : Type 0 where
-  pub answered : numbers ≡ currentsNumbers (envelopeAnswer file hops table sheet work)
-  pub written : sheet′ ≡ sheetAfter (envelopeVerdict file hops table sheet work) (frameSheet hops file) sheet
-  pub kept : WorkAfter (envelopeVerdict file hops table sheet work) work work′
+pub record EnvelopeCalled (given : envelope.EnvelopeArguments) (sheet′ work′ numbers : List ℕ) : Type 0 where
+  pub answered : numbers ≡ currentsNumbers (envelope.envelopeAnswer given)
+  pub written : sheet′ ≡ bufferAfter (envelope.envelopeVerdict given) (sheetWords (envelope.givenSheet given)) (given .sheet)
+  pub kept : WorkAfter (envelope.envelopeVerdict given) (given .work) work′
 
 -- Simulate: the numbers of its answer, and its buffers.
-pub record SimulateCalled (file : File) (table sheet pattern work sheet′ work′ numbers : List ℕ) : Type 0 where
-  pub answered : numbers ≡ currentsNumbers (simulateAnswer file table sheet pattern work)
-  pub written : sheet′ ≡ sheetAfter (simulateVerdict file table sheet pattern work) (patternSheet file pattern) sheet
-  pub kept : WorkAfter (simulateVerdict file table sheet pattern work) work work′
+pub record SimulateCalled (given : simulate.SimulateArguments) (sheet′ work′ numbers : List ℕ) : Type 0 where
+  pub answered : numbers ≡ currentsNumbers (simulate.simulateAnswer given)
+  pub written : sheet′ ≡ bufferAfter (simulate.simulateVerdict given) (sheetWords (simulate.givenSheet given)) (given .sheet)
+  pub kept : WorkAfter (simulate.simulateVerdict given) (given .work) work′
 
 -- Search: its promise holds with an answer whose numbers these are.
-pub record SearchCalled (file : File) (hops : ℕ) (table : List ℕ) (ratio budget : ℕ) (sheet pattern work store : List ℕ)
-    (sheet′ pattern′ work′ store′ numbers : List ℕ) : Type 0 where
+pub record SearchCalled (given : SearchArguments) (sheet′ pattern′ work′ store′ numbers : List ℕ) : Type 0 where
   pub answer : SearchAnswer
-  pub searched : Searched file hops table ratio budget sheet pattern work store answer sheet′ pattern′ work′ store′
+  pub searched : Searched given answer sheet′ pattern′ work′ store′
   pub numbered : numbers ≡ searchNumbers answer

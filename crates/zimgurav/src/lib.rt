@@ -1,16 +1,14 @@
 // The functions that C and Rust call. Each answer goes into a lent array of six numbers.
 ghost use mathlib.Core.Path.{_≡_};
 ghost use Rattle.block.specs.Refusals.{readOf};
-ghost use Rattle.block.specs.Numbers.{refusalNumbers, readNumbers};
-ghost use Rattle.evaluation.specs.Operation.{currentsNumbers};
-ghost use Rattle.search.specs.Search.{outcomeNumber, searchNumbers};
+ghost use Rattle.operation.specs.Numbers.{refusalNumbers, readNumbers, currentsNumbers, outcomeNumber, searchNumbers};
 ghost use Rattle.zimgurav.specs.Calls.{EnvelopeCalled, SimulateCalled, SearchCalled};
 use block::ReadAnswer;
 use block::Refusal;
-use cases::Outcome;
 use current::Word;
-use evaluation::CurrentsAnswer;
-use search::SearchAnswer;
+use operation::CurrentsAnswer;
+use operation::Outcome;
+use operation::SearchAnswer;
 
 // A refusal as six numbers.
 fn refusal_numbers(r: Refusal) -> [u64; 6]
@@ -34,7 +32,7 @@ fn currents_numbers(answer: CurrentsAnswer) -> [u64; 6]
     ensures { λ r. ⌜ r ≡ currentsNumbers answer ⌝ }
 {
     match answer {
-        CurrentsAnswer::Flowing { drop, quiet } => [0, drop, quiet, 0, 0, 0],
+        CurrentsAnswer::Found(currents) => [0, currents.drop, currents.quiet, 0, 0, 0],
         CurrentsAnswer::Refused(r) => refusal_numbers(r),
     }
 }
@@ -55,15 +53,17 @@ fn search_numbers(answer: SearchAnswer) -> [u64; 6]
     ensures { λ r. ⌜ r ≡ searchNumbers answer ⌝ }
 {
     match answer {
-        SearchAnswer::Found {
-            outcome,
-            upper,
-            lower,
-            splits,
-            cases,
-        } => {
+        SearchAnswer::Found(found) => {
+            let outcome = found.outcome;
             let number = outcome_number(outcome);
-            [0, number, upper, lower, splits, cases]
+            [
+                0,
+                number,
+                found.upper,
+                found.lower,
+                found.splits,
+                found.cases,
+            ]
         }
         SearchAnswer::Refused(r) => refusal_numbers(r),
     }
@@ -87,7 +87,7 @@ pub extern "C" fn zimgurav_envelope(
     work: &mut [u8],
     answer: &mut [u64; 6],
 )
-    ensures { λ _. ⌜ EnvelopeCalled (now (file .entry)) hops (now (table .entry)) (now (sheet .entry)) (now (work .entry)) (now (sheet .exit)) (now (work .exit)) (now (answer .exit)) ⌝ }
+    ensures { λ _. ⌜ EnvelopeCalled (record { file = now (file .entry); hops = hops; table = now (table .entry); sheet = now (sheet .entry); work = now (work .entry) }) (now (sheet .exit)) (now (work .exit)) (now (answer .exit)) ⌝ }
 {
     *answer = currents_numbers(envelope::envelope(file, hops, table, sheet, work));
 }
@@ -102,7 +102,7 @@ pub extern "C" fn zimgurav_simulate(
     work: &mut [u8],
     answer: &mut [u64; 6],
 )
-    ensures { λ _. ⌜ SimulateCalled (now (file .entry)) (now (table .entry)) (now (sheet .entry)) (now (pattern .entry)) (now (work .entry)) (now (sheet .exit)) (now (work .exit)) (now (answer .exit)) ⌝ }
+    ensures { λ _. ⌜ SimulateCalled (record { file = now (file .entry); table = now (table .entry); sheet = now (sheet .entry); pattern = now (pattern .entry); work = now (work .entry) }) (now (sheet .exit)) (now (work .exit)) (now (answer .exit)) ⌝ }
 {
     *answer = currents_numbers(simulator::simulate(file, table, sheet, pattern, work));
 }
@@ -122,7 +122,7 @@ pub extern "C" fn zimgurav_search(
     store: &mut [u8],
     answer: &mut [u64; 6],
 )
-    ensures { λ _. ⌜ SearchCalled (now (file .entry)) hops (now (table .entry)) ratio budget (now (sheet .entry)) (now (pattern .entry)) (now (work .entry)) (now (store .entry)) (now (sheet .exit)) (now (pattern .exit)) (now (work .exit)) (now (store .exit)) (now (answer .exit)) ⌝ }
+    ensures { λ _. ⌜ SearchCalled (record { file = now (file .entry); hops = hops; table = now (table .entry); ratio = ratio; budget = budget; sheet = now (sheet .entry); pattern = now (pattern .entry); work = now (work .entry); store = now (store .entry) }) (now (sheet .exit)) (now (pattern .exit)) (now (work .exit)) (now (store .exit)) (now (answer .exit)) ⌝ }
 {
     *answer = search_numbers(search::search(
         file,

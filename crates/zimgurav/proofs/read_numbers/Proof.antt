@@ -2,7 +2,7 @@
 -- Assumes nothing.
 use mathlib.Core.Path.{sym, ap, _∙_}
 use borrow.Author.Needs.{needs}
-use Rattle.block.specs.Numbers.{readNumbers}
+use Rattle.operation.specs.Numbers.{readNumbers}
 use Rattle.zimgurav.proofs.read_numbers.Statement.{statement}
 use Rattle.zimgurav.proofs.read_numbers.Tie as tie
 

@@ -2,7 +2,7 @@
 -- Assumes nothing.
 use borrow.Author.Needs.{needs}
 use mathlib.Core.Path.{sym, ap, _∙_}
-use Rattle.search.specs.Search.{searchNumbers}
+use Rattle.operation.specs.Numbers.{searchNumbers}
 use Rattle.zimgurav.proofs.search_numbers.Statement.{statement}
 use Rattle.zimgurav.proofs.search_numbers.Tie as tie
 
