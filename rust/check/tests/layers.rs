@@ -32,23 +32,8 @@ struct Named {
     why: &'static str,
 }
 
-/// Checks 11 to 15.
-const CHECKS: [&str; 8] = [
-    "hopsCheck",
-    "tableCheck",
-    "ratioCheck",
-    "budgetCheck",
-    "sheetCheck",
-    "patternCheck",
-    "workCheck",
-    "storeCheck",
-];
-
-/// What goes by the verdict on an operation's checks.
-const BY_VERDICT: [&str; 4] = ["answerAfter", "bufferAfter", "sheetAfter", "WorkAfter"];
-
 /// All that the search cites of the crates inside which it may not look.
-const CITED: [Named; 19] = [
+const CITED: [Named; 14] = [
     Named {
         module: "evaluation.specs.Evaluation",
         names: &["simulatedSheet", "envelopeSheet"],
@@ -56,68 +41,43 @@ const CITED: [Named; 19] = [
     },
     Named {
         module: "evaluation.specs.Evaluation",
-        names: &["HasRows", "Given", "Evaluated"],
-        why: "Records of the contract of `evaluate`: what it is given and what it answers.",
+        names: &["Evaluable", "InputCodes", "sheetFor", "Evaluated"],
+        why: "What the contract of `evaluate` names: what it is given and what it gives.",
+    },
+    Named {
+        module: "evaluation.specs.Evaluation",
+        names: &["currentsOf", "quietTick"],
+        why: "The drop and the quiet tick of Simulate's answer, which the agreement is about.",
+    },
+    Named {
+        module: "evaluation.specs.declared.Setting",
+        names: &["Setting"],
+        why: "The struct that every evaluation of a call takes: the counts of the block and the hop limit.",
+    },
+    Named {
+        module: "evaluation.proofs.Given",
+        names: &["evaluable-kept"],
+        why: "The law that one evaluation may follow another while the buffers keep their lengths.",
     },
     Named {
         module: "simulator.specs.Simulate",
-        names: &["PatternEvaluated"],
-        why: "The record of what `evaluate_pattern` promises.",
+        names: &["SinglesEvaluated"],
+        why: "What `evaluate_singles` promises.",
     },
     Named {
         module: "simulator.specs.Simulate",
-        names: &["Simulated", "patternSheet"],
-        why: "Simulate's promise, which the agreement is about, and the sheet that it names.",
+        names: &["SimulateArguments", "Simulated", "patternSheet", "givenSheet"],
+        why: "Simulate's promise, which the agreement is about, its arguments, and the sheet that it names.",
     },
     Named {
         module: "simulator.specs.Simulate",
-        names: &["byteAllowed", "bytesFrom", "sizeChecks", "simulateVerdict"],
+        names: &["sizeChecks", "simulateVerdict"],
         why: "Simulate's checks: the agreement says that it accepts the pattern handed over.",
-    },
-    Named {
-        module: "simulator.proofs.Patterns",
-        names: &["pattern-chosen", "bytes-pass"],
-        why: "The laws that refusal 16 lets pass just the choices of the frame.",
     },
     Named {
         module: "envelope.proofs.Soundness",
         names: &["soundness"],
         why: "The soundness law, on which the search rests.",
-    },
-    Named {
-        module: "evaluation.specs.Arguments",
-        names: &CHECKS,
-        why: "Checks 11 to 15, which Search makes too.",
-    },
-    Named {
-        module: "evaluation.specs.Arguments",
-        names: &["hopsRight", "tableRight", "ratioRight"],
-        why: "The tests of three of them.",
-    },
-    Named {
-        module: "evaluation.specs.Operation",
-        names: &BY_VERDICT,
-        why: "What an operation answers and leaves in its buffers, by the verdict on its checks.",
-    },
-    Named {
-        module: "evaluation.proofs.Operations",
-        names: &["by-file", "by-arguments", "file-accepted"],
-        why: "Laws of what is promised once Read has refused or accepted the file.",
-    },
-    Named {
-        module: "evaluation.specs.declared.Currents",
-        names: &["Currents"],
-        why: "The struct that the evaluations answer.",
-    },
-    Named {
-        module: "evaluation.specs.declared.CurrentsAnswer",
-        names: &["CurrentsAnswer"],
-        why: "Simulate's answer, which the agreement is about.",
-    },
-    Named {
-        module: "evaluation.specs.declared.CurrentsAnswer.the-variants",
-        names: &["Flowing", "*"],
-        why: "The variants of that answer.",
     },
     Named {
         module: "current.specs.Current",
@@ -136,12 +96,12 @@ const CITED: [Named; 19] = [
     },
     Named {
         module: "evaluation::",
-        names: &["evaluate", "arguments"],
-        why: "The code of an evaluation and of checks 11 to 13, called by contract.",
+        names: &["evaluate", "Setting"],
+        why: "The code of an evaluation, called by contract, and the struct that it takes.",
     },
     Named {
         module: "simulator::, current::",
-        names: &["evaluate_pattern", "clear", "Word"],
+        names: &["evaluate_singles", "clear", "Word"],
         why: "The simulation of a pattern and the clearing of the sheet, called by contract, and the type of its words.",
     },
 ];
@@ -149,33 +109,45 @@ const CITED: [Named; 19] = [
 /// The abbreviations among them, which open by themselves, and why that shows nothing inside.
 const ABBREVIATIONS: [(&[&str], &str); 4] = [
     (
-        &["simulatedSheet", "envelopeSheet", "patternSheet"],
+        &[
+            "simulatedSheet",
+            "envelopeSheet",
+            "sheetFor",
+            "patternSheet",
+            "givenSheet",
+        ],
         "They open to `sheetOf`, which stays shut.",
     ),
     (
         &["Sheet"],
         "It opens to the type of functions from contact and tick to a number.",
     ),
-    (&BY_VERDICT, "They open to cases on the verdict."),
-    (&CHECKS, "They open to a check's number, place and test."),
+    (
+        &["currentsOf"],
+        "It opens to `dropOf` and `quietTick`, which stay shut.",
+    ),
+    (
+        &["SinglesEvaluated"],
+        "It opens to the record `Evaluated` of the sheet of a pattern.",
+    ),
 ];
 
 /// All that the search unfolds, in its proofs and anywhere, of crates other than its own, `cases` and `laws`.
 const UNFOLDED: [Named; 5] = [
     Named {
-        module: "evaluation.specs.Arguments",
-        names: &["hopsRight", "ratioRight"],
-        why: "Checks 11 and 13: ranges of numbers.",
-    },
-    Named {
         module: "simulator.specs.Simulate",
-        names: &["byteAllowed", "sizeChecks", "simulateVerdict"],
+        names: &["sizeChecks", "simulateVerdict"],
         why: "Simulate's checks; none of them says what a simulation is.",
     },
     Named {
+        module: "operation.specs.Pattern",
+        names: &["byteAllowed"],
+        why: "Check 16 of one byte.",
+    },
+    Named {
         module: "block.specs.Refusals",
-        names: &["within", "readOf"],
-        why: "The test of a range, and the verdict on a file.",
+        names: &["readOf"],
+        why: "The verdict on a file.",
     },
     Named {
         module: "excitation.specs.UncertaintySet",
@@ -346,38 +318,22 @@ fn is_listed(list: &[Named], module: &str, name: &str) -> bool {
     entries.any(|entry| entry.names.contains(&name))
 }
 
+/// The prover refuses a name from a crate that `crates.txt` does not list, and a circle of crates. A crate
+/// that is listed and named nowhere it lets pass, and then the list would say less than it could.
 #[test]
-fn each_crate_names_only_those_below_it() {
+fn crates_list_only_what_they_name() {
     let crates = crates();
     let names: Vec<&str> = crates.iter().map(|(name, _)| name.as_str()).collect();
-    for (place, (name, allowed)) in crates.iter().enumerate() {
-        let below = |other: &str| names[..place].contains(&other);
+    for (name, listed) in &crates {
+        let cited = cited_by(name, &names);
+        let named: BTreeSet<&str> = cited.keys().map(|(module, _)| owner(module)).collect();
         let known = |other: &&String| names.contains(&other.as_str());
-        for other in allowed.iter().filter(known) {
+        for other in listed.iter().filter(known) {
             assert!(
-                below(other),
-                "crates.txt lists {other} for {name}, which is not below it"
+                named.contains(other.as_str()),
+                "crates.txt lists {other} for {name}, which names nothing of it"
             );
         }
-        for ((module, cited), file) in cited_by(name, &names) {
-            let other = owner(&module);
-            let right = other == name || (below(other) && allowed.iter().any(|each| each == other));
-            assert!(right, "{file} cites {module} {cited}");
-        }
-    }
-}
-
-#[test]
-fn cases_knows_nothing_of_simulation_and_envelope() {
-    let names: Vec<String> = crates().into_iter().map(|(name, _)| name).collect();
-    let names: Vec<&str> = names.iter().map(String::as_str).collect();
-    let cited = cited_by("cases", &names);
-    assert!(cited.len() > 100, "{} citations", cited.len());
-    for ((module, name), file) in cited {
-        assert!(
-            !INSIDE.contains(&owner(&module)),
-            "{file} cites {module} {name}"
-        );
     }
 }
 
@@ -464,9 +420,14 @@ fn abbreviations_show_nothing_inside() {
             assert_eq!(unfolded(&text), BTreeSet::new(), "{}", entry.module);
         }
     }
-    for shut in ["sheetOf", "sheetWords", "dropOf"] {
+    for (module, shut) in [
+        ("current.specs.Current", "sheetOf"),
+        ("current.specs.Current", "sheetWords"),
+        ("current.specs.Current", "dropOf"),
+        ("evaluation.specs.Evaluation", "quietTick"),
+    ] {
         assert_eq!(
-            marks("current.specs.Current", shut).as_deref(),
+            marks(module, shut).as_deref(),
             Some("unfoldable pub"),
             "{shut}"
         );
