@@ -11,7 +11,7 @@ use lib.Dec.{eqb, ltb}
 use lib.ListN.{length, getD, take, length-map, List·getD-map}
 use lib.Seq.{slice, slice-empty, slice-cons}
 use borrow.Author.Tests.{ltb-true}
-use Rattle.laws.specs.Below.{digit, allBelow}
+use Rattle.laws.specs.Below.{indicator, allBelow}
 use Rattle.laws.proofs.Below.{all-at}
 use Rattle.laws.proofs.Tests.{and-left, and-right}
 use Rattle.excitation.specs.Excitation.{l, h, hl, lh, same}
@@ -129,13 +129,13 @@ module _ (last : ℕ) (codes : List ℕ) (fine : Codes codes) (settled : Settled
     -- Runs are counted.
 
     pub counted-next : (n r total : ℕ) (before held : Bool) → t ≤ last → held ≡ member e (decode (getD codes t 0))
-        → r ≡ digit (held && not before)
+        → r ≡ indicator (held && not before)
         → n + begun before (ticksOf e (slice t (last + 1) codes)) ≡ total
         → n + r + begun held (ticksOf e (slice (t + 1) (last + 1) codes)) ≡ total
     unfolding begun
     counted-next n r total before held h a b so-far =
         let later = ticksOf e (slice (t + 1) (last + 1) codes) in
-        let here : begun before (ticksOf e (slice t (last + 1) codes)) ≡ digit (held && not before) + begun held later =
+        let here : begun before (ticksOf e (slice t (last + 1) codes)) ≡ indicator (held && not before) + begun held later =
         ap (begun before) (ticks-next h ∙ ap (λ x. x ∷ later) (sym a)) in
         omega arith
 
@@ -175,7 +175,7 @@ module _ (last : ℕ) (codes : List ℕ) (fine : Codes codes) (settled : Settled
 
   -- Changes are counted.
 
-  pub changed-next : (t n r total : ℕ) → t < last → r ≡ digit (not (eqb (getD codes t 0) (getD codes (t + 1) 0)))
+  pub changed-next : (t n r total : ℕ) → t < last → r ≡ indicator (not (eqb (getD codes t 0) (getD codes (t + 1) 0)))
       → n + changes (getD codes t 0) (slice (t + 1) (last + 1) codes) ≡ total
       → n + r + changes (getD codes (t + 1) 0) (slice (t + 1 + 1) (last + 1) codes) ≡ total
   unfolding changes

@@ -12,7 +12,7 @@ use lib.Dec.{eqb}
 use lib.ListN.{length, getD, take}
 use borrow.Author.Tests.{eqb-true, le-leb, lt-leb, lt-ltb, le-ltb, eq-eqb, ne-eqb}
 use borrow.Table.Steps.{cases}
-use Rattle.laws.specs.Below.{digit}
+use Rattle.laws.specs.Below.{indicator}
 use Rattle.fill.specs.Runs.{Run, run, Gap, gap, extend, runsFrom, runs, gapsAfter, gaps, shorter, shortest}
 use Rattle.fill.specs.Scan.{begun, changes, withGapBefore, scanned, shortestGap}
 use Rattle.fill.proofs.Runs.{Apart, none, next, extend-grows, extend-new, grows-or-new, runs-apart}
@@ -140,9 +140,9 @@ pub begun-take : (last : ℕ) (held : List Bool) (before : Bool) → SameFrom fa
 unfolding begun
 begun-take last [] before same = refl
 begun-take zero (held ∷ later) before same =
-    ap (λ n. digit (held && not before) + n) (sym (none-begun held later (rest-same false held later same)))
+    ap (λ n. indicator (held && not before) + n) (sym (none-begun held later (rest-same false held later same)))
 begun-take (suc last) (held ∷ later) before same =
-    ap (λ n. digit (held && not before) + n) (begun-take last later held (rest-same-from false last held later same))
+    ap (λ n. indicator (held && not before) + n) (begun-take last later held (rest-same-from false last held later same))
 
 scanned-all-held : (t : ℕ) (held : List Bool) (past : ℕ) (g : Gap) → AllSame false true held → t ≤ past → scanned t held past g ≡ g
 unfolding scanned
@@ -181,7 +181,7 @@ unfolding changes
 changes-take zero before codes same = sym (no-changes before codes (rest-same 0 before codes same))
 changes-take (suc last) before [] same = refl
 changes-take (suc last) before (code ∷ later) same =
-    ap (λ n. digit (not (eqb before code)) + n) (changes-take last code later (rest-same-from 0 last before (code ∷ later) same))
+    ap (λ n. indicator (not (eqb before code)) + n) (changes-take last code later (rest-same-from 0 last before (code ∷ later) same))
 
 -- There are no more changes than ticks.
 pub changes-few : (n before : ℕ) (codes : List ℕ) → changes before (take n codes) ≤ n
@@ -190,7 +190,7 @@ changes-few zero before codes = omega arith
 changes-few (suc n) before [] = omega arith
 changes-few (suc n) before (code ∷ later) = omega (arith, few (not (eqb before code)), changes-few n code later)
   where
-    few : (b : Bool) → digit b ≤ 1
+    few : (b : Bool) → indicator b ≤ 1
     few true = omega arith
     few false = omega arith
 
@@ -198,7 +198,7 @@ changes-few (suc n) before (code ∷ later) = omega (arith, few (not (eqb before
 
 module _ (holds : ℕ → Bool) where
   begun-changes : (before : ℕ) (codes : List ℕ)
-      → 2 * begun (holds before) (map holds codes) ≤ changes before codes + digit (not (holds before))
+      → 2 * begun (holds before) (map holds codes) ≤ changes before codes + indicator (not (holds before))
   unfolding begun changes
   begun-changes before [] = omega arith
   begun-changes before (code ∷ later) =
@@ -207,17 +207,17 @@ module _ (holds : ℕ → Bool) where
       (λ e. let q = eqb-true before code e in rw (e, q) (omega (arith, same (holds code))))
       (λ e. rw e (step (holds before) (holds code) (begun (holds code) (map holds later)) (changes code later) rest))
     where
-      same : (b : Bool) → digit (b && not b) ≡ 0
+      same : (b : Bool) → indicator (b && not b) ≡ 0
       same true = refl
       same false = refl
 
-      step : (b c : Bool) (n m : ℕ) → 2 * n ≤ m + digit (not c) → 2 * (digit (c && not b) + n) ≤ 1 + m + digit (not b)
+      step : (b c : Bool) (n m : ℕ) → 2 * n ≤ m + indicator (not c) → 2 * (indicator (c && not b) + n) ≤ 1 + m + indicator (not b)
       step true true n m h = omega arith
       step true false n m h = omega arith
       step false true n m h = omega arith
       step false false n m h = omega arith
 
-  first-begun : (b : Bool) (n : ℕ) (later : List Bool) → 2 * begun b later ≤ n + digit (not b) → 2 * begun false (b ∷ later) ≤ n + 2
+  first-begun : (b : Bool) (n : ℕ) (later : List Bool) → 2 * begun b later ≤ n + indicator (not b) → 2 * begun false (b ∷ later) ≤ n + 2
   unfolding begun
   first-begun true n later h = omega arith
   first-begun false n later h = omega arith

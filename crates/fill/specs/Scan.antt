@@ -3,19 +3,19 @@ use Prim.Native.Nat.{ℕ, suc, _+_, _-_}
 use mathlib.Core.Bool.{Bool, true, false, cond, not, _&&_}
 use mathlib.Core.List.{List, [], _∷_}
 use lib.Dec.{eqb, leb, ltb}
-use Rattle.laws.specs.Below.{digit}
+use Rattle.laws.specs.Below.{indicator}
 use Rattle.fill.specs.Runs.{Run, Gap, gap, gaps, shorter, shortest}
 use Rattle.fill.specs.declared.Scan.{Scan}
 
 -- How many runs begin at some ticks. The first argument says whether the tick before them is held.
 unfoldable pub begun : Bool → List Bool → ℕ
 begun before [] = 0
-begun before (held ∷ later) = digit (held && not before) + begun held later
+begun before (held ∷ later) = indicator (held && not before) + begun held later
 
 -- How often the code changes. The first argument is the code before these.
 unfoldable pub changes : ℕ → List ℕ → ℕ
 changes before [] = 0
-changes before (code ∷ later) = digit (not (eqb before code)) + changes code later
+changes before (code ∷ later) = indicator (not (eqb before code)) + changes code later
 
 -- The shorter of a gap so far and the gap before tick t, where `next` is the tick after the latest held one. There is none before a
 -- tick up to `next`.

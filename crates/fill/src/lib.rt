@@ -5,7 +5,7 @@ ghost use mathlib.Core.List.{List, _∷_};
 ghost use mathlib.Core.Path.{_≡_};
 ghost use lib.Dec.{eqb};
 ghost use lib.ListN.{length};
-ghost use Rattle.laws.specs.Below.{digit};
+ghost use Rattle.laws.specs.Below.{indicator};
 ghost use Rattle.excitation.specs.declared.Excitation.{Excitation};
 ghost use Rattle.fill.specs.Scan.{scanned, gapOf, shortestGap};
 ghost use Rattle.fill.specs.Codes.{Codes, SettledFrom, Filled};
@@ -28,7 +28,7 @@ fn added(set: u8, e: Excitation) -> u8
 
 // 1 where a run begins.
 fn begins(held: bool, before: bool) -> usize
-    ensures { λ r. ⌜ (r ≡ digit (held && not before)) × (r ≤ 1) ⌝ }
+    ensures { λ r. ⌜ (r ≡ indicator (held && not before)) × (r ≤ 1) ⌝ }
 {
     if before {
         return 0;
@@ -134,7 +134,7 @@ fn fill_excitation(codes: &mut [u8], e: Excitation, hops: usize, last: usize)
 
 // 1 where two sets differ.
 fn differ(first: u8, second: u8) -> u8
-    ensures { λ r. ⌜ (r ≡ digit (not (eqb first second))) × (r ≤ 1) ⌝ }
+    ensures { λ r. ⌜ (r ≡ indicator (not (eqb first second))) × (r ≤ 1) ⌝ }
 {
     (first != second) as u8
 }
