@@ -10,7 +10,7 @@ use native.Mathlib.Omega.{arith}
 use Rattle.block.specs.declared.Refusal.{Refusal}
 use Rattle.block.specs.declared.Verdict.{Verdict}
 use Rattle.block.specs.declared.Verdict.the-variants.{Accepted, Refused}
-use Rattle.block.specs.Verdict.{Check, check, refusal, verdict, also}
+use Rattle.block.specs.Verdict.{Check, check, verdict, also}
 
 -- No verdict is both.
 pub apart : {P : Type 0} (r : Refusal) → Refused r ≡ Accepted → P

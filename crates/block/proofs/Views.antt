@@ -4,7 +4,6 @@ use Prim.Native.Nat.{ℕ, zero, suc, _<_}
 use mathlib.Core.List.{[], _∷_}
 use mathlib.Core.Path.{_≡_, refl, ap}
 use native.Mathlib.Omega.{arith}
-use Rattle.block.specs.declared.Gate.{Gate}
 use Rattle.block.specs.declared.Net.{Net}
 use Rattle.block.specs.Record.{File, HasRecord, kind, contact, delay, pinCount, pin, rise, fall, peakLh, peakHl}
 use Rattle.block.specs.View.{netOf, gateOf, pinOf, InView}

@@ -1,6 +1,6 @@
 -- The sets of a case's probe, as codes: sets of one member. Those of a decided case are its own.
 -- Assumes nothing.
-use Prim.Native.Nat.{ℕ, _≤_, _<_}
+use Prim.Native.Nat.{ℕ}
 use mathlib.Core.Bool.{true}
 use mathlib.Core.List.{List, map}
 use mathlib.Core.Path.{_≡_, ap, sym, _∙_}

@@ -1,7 +1,6 @@
 -- The agreement of the two houses, from the promises of Search and Simulate, the laws of the search and the soundness law.
 -- Assumes nothing.
 use Prim.Native.Nat.{ℕ, _*_, _≤_}
-use mathlib.Core.Bool.{true}
 use mathlib.Core.List.{List}
 use mathlib.Core.Path.{_≡_, refl, ap, sym, subst, _∙_}
 use native.Mathlib.Omega.{arith}
@@ -39,7 +38,7 @@ use Rattle.cases.proofs.Right.{search-right, sheet-above}
 use Rattle.simulator.specs.Simulate.{SimulateArguments, sizeChecks, simulateVerdict, patternSheet, givenSheet, Simulated}
 use Rattle.bounds.specs.Bounds.{simulatedDrop, envelopeDrop, sheetOver}
 use Rattle.search.specs.Agreement.{sharing, Agrees, Agreement}
-use Rattle.search.specs.Search.{SearchArguments, chooseIn, searchOf, argumentChecks, searchVerdict, foundBy, searchAnswerAfter, Searched}
+use Rattle.search.specs.Search.{SearchArguments, chooseIn, searchOf, searchVerdict, foundBy, searchAnswerAfter, Searched}
 use Rattle.search.proofs.Accepted.{ArgumentsRight, arguments-right}
 use Rattle.search.proofs.Frame.{frame-probe, pattern-room, pattern-back, pattern-passes}
 

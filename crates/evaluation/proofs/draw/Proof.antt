@@ -1,7 +1,7 @@
 -- `evaluation::draw` meets its contract. The loop's invariant: the nets passed are evaluated, and the settling tick is theirs.
 -- Assumes nothing.
-use Prim.Native.Nat.{ℕ, _-_, _*_, _≤_, _<_}
-use mathlib.Core.Path.{_≡_, refl, ap, sym, subst, _∙_}
+use Prim.Native.Nat.{ℕ, _-_, _≤_, _<_}
+use mathlib.Core.Path.{_≡_, refl, ap, sym, _∙_}
 use native.Mathlib.Omega.{arith}
 use lib.ListN.{length, length-replicate}
 use borrow.Author.Needs.{needs}
@@ -9,7 +9,6 @@ use Rattle.laws.specs.Below.{maxBelow}
 use Rattle.laws.proofs.Below.{max-next}
 use Rattle.excitation.proofs.Lookup.{table-long}
 use Rattle.excitation.specs.UncertaintySet.{setsIn}
-use Rattle.block.specs.Limits.{gateLimit}
 use Rattle.block.proofs.Accepted.{has-record}
 use Rattle.evaluation.specs.Evaluation.{HasRows}
 use Rattle.evaluation.proofs.Drawing.{Evaluating, next-checked, next-ready, next-arrives, next-drawable, next-evaluated, all-evaluated, inputs-evaluated}
