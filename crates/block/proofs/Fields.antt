@@ -2,7 +2,7 @@
 -- Assumes nothing.
 use Prim.Native.Nat.{ℕ, _+_, _≤_}
 use mathlib.Core.Path.{_≡_, refl, sym, _∙_}
-use mathlib.Core.List.{[], List·Memᴰ·head, List·Memᴰ·tail}
+use mathlib.Core.List.{[]}
 use mathlib.Core.Bool.{Bool, true, false, _&&_}
 use native.Mathlib.Omega.{arith}
 use lib.Dec.{eqb, leb, ltb}
@@ -20,7 +20,7 @@ use Rattle.block.specs.Verdict.{check, verdict, also}
 use Rattle.block.specs.Refusals.{within, kindKnown, inputInPlace, pinCountRight, zeroBytes, inputSpareZero, pinsBelow, gateInRange, inputInRange, inputChecks, gateChecks, fieldChecks}
 use Rattle.block.specs.Accepted.{InputRecord, InRanges, GateRecord}
 use Rattle.block.specs.View.{gateOf}
-use Rattle.block.proofs.Verdicts.{all-passed, more-by, passed, listed}
+use Rattle.block.proofs.Verdicts.{all-passed, more-by, passed, listed, listing}
 use Rattle.block.proofs.Views.{pin-of}
 
 pub within-low : (low high x : ℕ) → within low high x ≡ true → low ≤ x
@@ -87,9 +87,7 @@ gate-kind : (file : File) (net : ℕ) → isInput file net ≡ false → kind fi
 unfolding isInput
 gate-kind file net e = eqb-false _ _ e
 
--- Checks 4 to 9 passed on a gate, and on an input. Each check is found in its list by search, so that the order does not matter here.
-ruleset listing = (List·Memᴰ·head, List·Memᴰ·tail, refl)
-
+-- Checks 4 to 9 passed on a gate, and on an input.
 pub gate-ranges : {contact delay rise fall : ℕ} → gateInRange contact delay rise fall ≡ true → InRanges contact delay rise fall
 unfolding gateInRange
 gate-ranges {contact} {delay} {rise} t =

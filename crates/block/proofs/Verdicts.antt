@@ -4,7 +4,7 @@
 use Prim.Native.Nat.{ℕ}
 use mathlib.Core.Path.{_≡_, refl, sym, ap, _∙_}
 use mathlib.Core.Bool.{Bool, true, false}
-use mathlib.Core.List.{List, [], _∷_, _++_, List·Memᴰ, List·Memᴰ·not-nil, List·Memᴰ·cases-cons}
+use mathlib.Core.List.{List, [], _∷_, _++_, List·Memᴰ, List·Memᴰ·head, List·Memᴰ·tail, List·Memᴰ·not-nil, List·Memᴰ·cases-cons}
 use mathlib.Core.Logic.{⊎-elim}
 use native.Mathlib.Omega.{arith}
 use Rattle.block.specs.declared.Refusal.{Refusal}
@@ -77,3 +77,6 @@ listed [] e number place b m = absurd (List·Memᴰ·not-nil m)
 listed (check n p true ∷ s) e number place b m =
     ⊎-elim (λ (q : check number place b ≡ check n p true). cc) (λ r. listed s e number place b r) (List·Memᴰ·cases-cons m)
 listed (check n p false ∷ s) e number place b m = apart _ e
+
+-- Finds a check in its list by search, so that a proof that cites `listed` does not depend on the order of the checks.
+pub ruleset listing = (List·Memᴰ·head, List·Memᴰ·tail, refl)

@@ -2,18 +2,14 @@
 -- Assumes nothing.
 use Prim.Native.Nat.{ℕ, _+_, _*_, _≤_}
 use mathlib.Core.Bool.{true}
-use mathlib.Core.List.{List·Memᴰ·head, List·Memᴰ·tail}
-use mathlib.Core.Path.{_≡_, refl}
+use mathlib.Core.Path.{_≡_}
 use borrow.Author.Tests.{eqb-true, leb-true}
 use Rattle.block.specs.Verdict.{verdict}
 use Rattle.block.specs.declared.Verdict.the-variants.{Accepted}
 use Rattle.block.proofs.Fields.{within-low, within-high}
-use Rattle.block.proofs.Verdicts.{listed}
+use Rattle.block.proofs.Verdicts.{listed, listing}
 use Rattle.operation.specs.Arguments.{tableRight}
 use Rattle.search.specs.Search.{argumentChecks}
-
--- Each check is found in its list by search, so that the order does not matter here.
-ruleset listing = (List·Memᴰ·head, List·Memᴰ·tail, refl)
 
 pub record ArgumentsRight (nets hops table ratio budget sheet pattern work store : ℕ) : Type 0 where
   pub some-hops : 1 ≤ hops

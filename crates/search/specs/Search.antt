@@ -65,7 +65,7 @@ searchVerdict given =
     ++ argumentChecks (netCount (given .file)) (given .hops) (length (given .table)) (given .ratio) (given .budget) (length (given .sheet))
     (length (given .pattern)) (length (given .work)) (length (given .store)))
 
--- The answer: outcome, U, L, splits (how many cases it split), cases (records in the store at the end); or the refusal.
+-- What an accepted search answers: outcome, U, L, splits (how many cases it split), cases (records in the store at the end).
 unfoldable pub foundBy : SearchEnd → Found
 foundBy end =
     let state = end .state in
@@ -77,6 +77,7 @@ foundBy end =
       cases = length (state .cases);
     }
 
+-- The answer: what the search found, or the refusal.
 abbrev pub searchAnswerAfter : Verdict → SearchEnd → SearchAnswer
 searchAnswerAfter verdict-is.Accepted end = answer.Found (foundBy end)
 searchAnswerAfter (verdict-is.Refused r) end = answer.Refused r

@@ -1,7 +1,7 @@
 -- What Simulate answers: the file is refused, another argument is refused, or the call is accepted.
 -- Assumes nothing.
 use Prim.Native.Nat.{ℕ, _*_, _≤_}
-use mathlib.Core.List.{List, _++_, List·Memᴰ·head, List·Memᴰ·tail}
+use mathlib.Core.List.{List, _++_}
 use mathlib.Core.Path.{_≡_, refl, ap}
 use lib.ListN.{length}
 use borrow.Author.Tests.{eqb-true, leb-true}
@@ -14,7 +14,7 @@ use Rattle.block.specs.declared.ReadAnswer.the-variants as read-answer
 use Rattle.block.specs.declared.Refusal.{Refusal}
 use Rattle.block.specs.declared.Verdict.{Verdict}
 use Rattle.block.specs.declared.Verdict.the-variants as verdict-is
-use Rattle.block.proofs.Verdicts.{listed}
+use Rattle.block.proofs.Verdicts.{listed, listing}
 use Rattle.operation.specs.Operation.{answerAfter, bufferAfter, WorkAfter}
 use Rattle.operation.specs.Pattern.{byteChecks}
 use Rattle.operation.specs.declared.Currents.{Currents}
@@ -24,9 +24,6 @@ use Rattle.operation.proofs.Operations.{by-file, by-arguments}
 use Rattle.current.specs.Current.{sheetWords}
 use Rattle.evaluation.specs.Evaluation.{currentsOf, Evaluated}
 use Rattle.simulator.specs.Simulate.{SimulateArguments, sizeChecks, simulateVerdict, givenSheet, Simulated}
-
--- Each check is found in its list by search, so that the order does not matter here.
-ruleset listing = (List·Memᴰ·head, List·Memᴰ·tail, refl)
 
 -- What accepted sizes are.
 pub record SizesRight (nets table sheet pattern work : ℕ) : Type 0 where
