@@ -1,7 +1,8 @@
--- The numbers of each case of an answer: 0 and document 01's values for an accepted call, or the refusal's number and place; 0 past
--- them, up to six.
-use Prim.Native.Nat.{ℕ}
-use mathlib.Core.List.{List, [], _∷_}
+-- The eight numbers of each case of an answer: 0 and document 01's values for an accepted call, or the refusal's number and place; 0
+-- past them.
+use Prim.Native.Nat.{ℕ, _-_}
+use mathlib.Core.List.{List, [], _∷_, _++_}
+use lib.ListN.{length, replicate}
 use Rattle.block.specs.declared.ReadAnswer.{ReadAnswer}
 use Rattle.block.specs.declared.ReadAnswer.the-variants as read-answer
 use Rattle.block.specs.declared.Refusal.{Refusal}
@@ -12,18 +13,22 @@ use Rattle.operation.specs.declared.Outcome.the-variants.{Exact, Within,
 use Rattle.operation.specs.declared.SearchAnswer.{SearchAnswer}
 use Rattle.operation.specs.declared.SearchAnswer.the-variants as search-answer
 
+-- Eight numbers that begin with the given ones, 0 past them.
+abbrev pub eight : List ℕ → List ℕ
+eight given = given ++ replicate (8 - length given) 0
+
 -- A refusal: its number and its place.
 abbrev pub refusalNumbers : Refusal → List ℕ
-refusalNumbers r = r .number ∷ r .place ∷ 0 ∷ 0 ∷ 0 ∷ 0 ∷ []
+refusalNumbers r = eight (r .number ∷ r .place ∷ [])
 
 -- Read: the counts of nets and inputs.
 abbrev pub readNumbers : ReadAnswer → List ℕ
-readNumbers (read-answer.Counts nets inputs) = 0 ∷ nets ∷ inputs ∷ 0 ∷ 0 ∷ 0 ∷ []
+readNumbers (read-answer.Counts nets inputs) = eight (0 ∷ nets ∷ inputs ∷ [])
 readNumbers (read-answer.Refused r) = refusalNumbers r
 
 -- Envelope and Simulate: the drop and the quiet tick.
 abbrev pub currentsNumbers : CurrentsAnswer → List ℕ
-currentsNumbers (currents-answer.Found found) = 0 ∷ found .drop ∷ found .quiet ∷ 0 ∷ 0 ∷ 0 ∷ []
+currentsNumbers (currents-answer.Found found) = eight (0 ∷ found .drop ∷ found .quiet ∷ [])
 currentsNumbers (currents-answer.Refused r) = refusalNumbers r
 
 -- The number of an outcome: 0 exact, 1 within, 2 spent.
@@ -35,5 +40,5 @@ outcomeNumber Spent = 2
 -- Search: outcome, U, L, splits and cases.
 abbrev pub searchNumbers : SearchAnswer → List ℕ
 searchNumbers (search-answer.Found found) =
-    0 ∷ outcomeNumber (found .outcome) ∷ found .upper ∷ found .lower ∷ found .splits ∷ found .cases ∷ []
+    eight (0 ∷ outcomeNumber (found .outcome) ∷ found .upper ∷ found .lower ∷ found .splits ∷ found .cases ∷ [])
 searchNumbers (search-answer.Refused r) = refusalNumbers r

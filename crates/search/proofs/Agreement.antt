@@ -152,7 +152,10 @@ module _ (given : SearchArguments) (found : Found) (sheet pattern : List ℕ) (e
     unfolding foundBy
     drop-below-run = rw (simulation .drop-is, upper-is) (right .above (simulation .choice))
 
-  -- The pattern handed over passes Simulate's checks, and drops L.
+  -- The pattern handed over is the search's, a choice of the frame; it passes Simulate's checks, and drops L.
+
+  handed-is : patternOf (inputCount file) pattern ≡ end .state .best .pattern
+  handed-is = ap (patternOf (inputCount file)) (ended .pattern-is) ∙ pattern-back file (end .state .best .pattern) (given .pattern) (right .chosen)
 
   pattern-long : length pattern ≡ 64
   pattern-long =
@@ -178,9 +181,7 @@ module _ (given : SearchArguments) (found : Found) (sheet pattern : List ℕ) (e
   handed-drop : dropOf (given .table) (patternSheet file pattern) ≡ found .lower
   unfolding foundBy
   handed-drop =
-      ap (λ p. simulatedDrop file (given .table) p)
-      (ap (patternOf (inputCount file)) (ended .pattern-is) ∙ pattern-back file (end .state .best .pattern) (given .pattern) (right .chosen))
-      ∙ right .reached ∙ sym lower-is
+      ap (λ p. simulatedDrop file (given .table) p) handed-is ∙ right .reached ∙ sym lower-is
 
   handed-over : (room work : List ℕ) (a : CurrentsAnswer) (simulated work′ : List ℕ) → length room ≡ 8192 → 160 * netCount file ≤ length work
       → Simulated (sharing given room pattern work) a simulated work′
@@ -195,6 +196,7 @@ module _ (given : SearchArguments) (found : Found) (sheet pattern : List ℕ) (e
   agrees = record {
     draws-no-more = λ room bytes work told simulated work′ s. sheet-above-run s;
     drops-no-more = λ room bytes work told simulated work′ s. drop-below-run s;
+    pattern-chosen = subst (λ p. Choice p (frame file)) (sym handed-is) (right .chosen);
     pattern-drops = handed-over;
     exact-means = λ e. subst (Says (given .ratio) (found .upper) (found .lower)) e says-of;
     exact-when = λ e. said-is ∙ is-exact (given .ratio) (found .upper) (found .lower) e;
@@ -209,6 +211,12 @@ module _ (given : SearchArguments) (found : Found) (sheet pattern : List ℕ) (e
     splits-within = rw splits-is (right .few);
     budget-enough = λ enough e. (let most = right .enough (sym outcome-is ∙ e) in omega arith);
   }
+
+-- The pattern buffer of an accepted search holds the search's pattern.
+pub pattern-handed : (given : SearchArguments) (found : Found) (sheet′ pattern′ work′ store′ : List ℕ)
+    → Searched given (answer.Found found) sheet′ pattern′ work′ store′ → patternOf (inputCount (given .file)) pattern′ ≡ searchOf given .state .best .pattern
+pattern-handed given found sheet′ pattern′ work′ store′ s =
+    handed-is given found sheet′ pattern′ (search-accepted given found sheet′ pattern′ work′ store′ s)
 
 -- Every accepted search agrees with every accepted simulation of the same file and table.
 pub agreement : Agreement

@@ -5,7 +5,8 @@ use Prim.Native.Nat.{ℕ, _+_, _*_, _≤_, _<_}
 use mathlib.Core.List.{List}
 use mathlib.Core.Path.{_≡_}
 use lib.ListN.{length, getD}
-use Rattle.block.specs.Block.{patternCount}
+use Rattle.excitation.specs.Excitation.{patternOf}
+use Rattle.block.specs.Block.{frame, inputCount, patternCount, Choice}
 use Rattle.block.specs.Record.{netCount}
 use Rattle.operation.specs.declared.Currents.{Currents}
 use Rattle.operation.specs.declared.CurrentsAnswer.{CurrentsAnswer}
@@ -29,7 +30,9 @@ pub record Agrees (given : SearchArguments) (found : Found) (sheet pattern : Lis
       → Simulated (sharing given room bytes work) (currents.Found answer) simulated work′ → (i : ℕ) → getD simulated i 0 ≤ getD sheet i 0
   pub drops-no-more : (room bytes work : List ℕ) (answer : Currents) (simulated work′ : List ℕ)
       → Simulated (sharing given room bytes work) (currents.Found answer) simulated work′ → answer .drop ≤ found .upper
-  -- Simulate, given the search's pattern buffer and buffers of the right sizes, accepts it, and it drops exactly L.
+  -- The pattern handed over is a choice of the frame. Simulate, given the search's pattern buffer and buffers of the right sizes, accepts
+  -- it, and it drops exactly L.
+  pub pattern-chosen : Choice (patternOf (inputCount (given .file)) pattern) (frame (given .file))
   pub pattern-drops : (room work : List ℕ) (answer : CurrentsAnswer) (simulated work′ : List ℕ) → length room ≡ 8192
       → 160 * netCount (given .file) ≤ length work → Simulated (sharing given room pattern work) answer simulated work′
       → answer ≡ currents.Found (record { drop = found .lower; quiet = quietTick (given .file) (patternSheet (given .file) pattern) })

@@ -1,5 +1,5 @@
--- What the calls from C promise (document 01, "List of forms by place", and "What the checker must hold us to", 1): the six numbers of
--- the answer, and each buffer as the call leaves it.
+-- What the calls from C promise (document 01, "List of forms by place", and "What the checker must hold us to", 1): the eight numbers
+-- of the answer, and each buffer as the call leaves it.
 use Prim.Native.Nat.{ℕ}
 use mathlib.Core.List.{List}
 use mathlib.Core.Path.{_≡_}
@@ -10,6 +10,10 @@ use Rattle.current.specs.Current.{sheetWords}
 use Rattle.simulator.specs.Simulate as simulate
 use Rattle.envelope.specs.Envelope as envelope
 use Rattle.search.specs.Search.{SearchArguments, Searched}
+
+-- The version of the calls: a number that goes up with every change of what a call takes, answers or writes.
+abbrev pub version : ℕ
+version = 1
 
 -- Envelope: the numbers of its answer, and its buffers.
 pub record EnvelopeCalled (given : envelope.EnvelopeArguments) (sheet′ work′ numbers : List ℕ) : Type 0 where

@@ -1,8 +1,8 @@
-// The functions that C and Rust call. Each answer goes into a lent array of six numbers.
+// The functions that C and Rust call. Each answer goes into a lent array of eight numbers.
 ghost use mathlib.Core.Path.{_≡_};
 ghost use Rattle.block.specs.Refusals.{readOf};
 ghost use Rattle.operation.specs.Numbers.{refusalNumbers, readNumbers, currentsNumbers, outcomeNumber, searchNumbers};
-ghost use Rattle.zimgurav.specs.Calls.{EnvelopeCalled, SimulateCalled, SearchCalled};
+ghost use Rattle.zimgurav.specs.Calls.{version, EnvelopeCalled, SimulateCalled, SearchCalled};
 use block::ReadAnswer;
 use block::Refusal;
 use current::Word;
@@ -10,29 +10,29 @@ use operation::CurrentsAnswer;
 use operation::Outcome;
 use operation::SearchAnswer;
 
-// A refusal as six numbers.
-fn refusal_numbers(r: Refusal) -> [u64; 6]
+// A refusal as eight numbers.
+fn refusal_numbers(r: Refusal) -> [u64; 8]
     ensures { λ n. ⌜ n ≡ refusalNumbers r ⌝ }
 {
-    [r.number, r.place, 0, 0, 0, 0]
+    [r.number, r.place, 0, 0, 0, 0, 0, 0]
 }
 
-// Read's answer as six numbers.
-fn read_numbers(answer: ReadAnswer) -> [u64; 6]
+// Read's answer as eight numbers.
+fn read_numbers(answer: ReadAnswer) -> [u64; 8]
     ensures { λ r. ⌜ r ≡ readNumbers answer ⌝ }
 {
     match answer {
-        ReadAnswer::Counts { nets, inputs } => [0, nets, inputs, 0, 0, 0],
+        ReadAnswer::Counts { nets, inputs } => [0, nets, inputs, 0, 0, 0, 0, 0],
         ReadAnswer::Refused(r) => refusal_numbers(r),
     }
 }
 
-// Envelope's or Simulate's answer as six numbers.
-fn currents_numbers(answer: CurrentsAnswer) -> [u64; 6]
+// Envelope's or Simulate's answer as eight numbers.
+fn currents_numbers(answer: CurrentsAnswer) -> [u64; 8]
     ensures { λ r. ⌜ r ≡ currentsNumbers answer ⌝ }
 {
     match answer {
-        CurrentsAnswer::Found(currents) => [0, currents.drop, currents.quiet, 0, 0, 0],
+        CurrentsAnswer::Found(currents) => [0, currents.drop, currents.quiet, 0, 0, 0, 0, 0],
         CurrentsAnswer::Refused(r) => refusal_numbers(r),
     }
 }
@@ -48,8 +48,8 @@ fn outcome_number(outcome: Outcome) -> u64
     }
 }
 
-// Search's answer as six numbers.
-fn search_numbers(answer: SearchAnswer) -> [u64; 6]
+// Search's answer as eight numbers.
+fn search_numbers(answer: SearchAnswer) -> [u64; 8]
     ensures { λ r. ⌜ r ≡ searchNumbers answer ⌝ }
 {
     match answer {
@@ -63,15 +63,26 @@ fn search_numbers(answer: SearchAnswer) -> [u64; 6]
                 found.lower,
                 found.splits,
                 found.cases,
+                0,
+                0,
             ]
         }
         SearchAnswer::Refused(r) => refusal_numbers(r),
     }
 }
 
+// The version of these calls. It goes up with every change of what a call takes, answers or writes, so that two builds of one version
+// give the same answers and the same sheets.
+#[no_mangle]
+pub extern "C" fn zimgurav_version() -> u64
+    ensures { λ r. ⌜ r ≡ version ⌝ }
+{
+    1
+}
+
 // Read: the file's counts of nets and inputs, or its refusal.
 #[no_mangle]
-pub extern "C" fn zimgurav_read(file: &[u8], answer: &mut [u64; 6])
+pub extern "C" fn zimgurav_read(file: &[u8], answer: &mut [u64; 8])
     ensures { λ _. ⌜ now (answer .exit) ≡ readNumbers (readOf (now (file .entry))) ⌝ }
 {
     *answer = read_numbers(block::read(file));
@@ -85,7 +96,7 @@ pub extern "C" fn zimgurav_envelope(
     table: &[u16],
     sheet: &mut [Word],
     work: &mut [u8],
-    answer: &mut [u64; 6],
+    answer: &mut [u64; 8],
 )
     ensures { λ _. ⌜ EnvelopeCalled (record { file = now (file .entry); hops = hops; table = now (table .entry); sheet = now (sheet .entry); work = now (work .entry) }) (now (sheet .exit)) (now (work .exit)) (now (answer .exit)) ⌝ }
 {
@@ -100,7 +111,7 @@ pub extern "C" fn zimgurav_simulate(
     sheet: &mut [Word],
     pattern: &[u8],
     work: &mut [u8],
-    answer: &mut [u64; 6],
+    answer: &mut [u64; 8],
 )
     ensures { λ _. ⌜ SimulateCalled (record { file = now (file .entry); table = now (table .entry); sheet = now (sheet .entry); pattern = now (pattern .entry); work = now (work .entry) }) (now (sheet .exit)) (now (work .exit)) (now (answer .exit)) ⌝ }
 {
@@ -120,7 +131,7 @@ pub extern "C" fn zimgurav_search(
     pattern: &mut [u8],
     work: &mut [u8],
     store: &mut [u8],
-    answer: &mut [u64; 6],
+    answer: &mut [u64; 8],
 )
     ensures { λ _. ⌜ SearchCalled (record { file = now (file .entry); hops = hops; table = now (table .entry); ratio = ratio; budget = budget; sheet = now (sheet .entry); pattern = now (pattern .entry); work = now (work .entry); store = now (store .entry) }) (now (sheet .exit)) (now (pattern .exit)) (now (work .exit)) (now (store .exit)) (now (answer .exit)) ⌝ }
 {
