@@ -18,6 +18,7 @@ use Rattle.excitation.specs.declared.Excitation.{Excitation}
 use Rattle.excitation.specs.UncertaintySet.{_∈_, decode}
 use Rattle.excitation.proofs.Codes.{some-member}
 use Rattle.block.specs.declared.ReadAnswer.the-variants as answer
+use Rattle.block.specs.declared.Refusal.{Refusal}
 use Rattle.block.specs.declared.Verdict.{Verdict}
 use Rattle.block.specs.declared.Verdict.the-variants.{Accepted, Refused}
 use Rattle.block.specs.Record.{File, HasRecord, netCount, allowed, isInput}
@@ -28,11 +29,15 @@ use Rattle.block.specs.Accepted.{InputRecord, AcceptedFile}
 use Rattle.block.proofs.Verdicts.{passed, both-accepted}
 use Rattle.block.proofs.Fields.{gate-record, input-record}
 
--- Counts are the answer to an accepted file alone.
-counts-of : (file : File) (v : Verdict) (nets inputs : ℕ) → answerTo file v ≡ answer.Counts nets inputs
+-- Counts are the answer to an accepted file alone, and a refusal to a refused one.
+pub counts-of : (file : File) (v : Verdict) (nets inputs : ℕ) → answerTo file v ≡ answer.Counts nets inputs
     → (v ≡ Accepted) × (netCount file ≡ nets) × (inputCount file ≡ inputs)
 counts-of file Accepted nets inputs e = (refl, cc, cc)
 counts-of file (Refused r) nets inputs e = absurd (let z : _≡_ {A = ℕ} 0 1 = cc in omega arith)
+
+pub refused-verdict : (file : File) (v : Verdict) (r : Refusal) → answerTo file v ≡ answer.Refused r → v ≡ Refused r
+refused-verdict file Accepted r e = absurd (let z : _≡_ {A = ℕ} 0 1 = cc in omega arith)
+refused-verdict file (Refused s) r e = let z : s ≡ r = cc in ap Refused z
 
 -- Every record of an accepted file was accepted.
 each-record : (file : File) (n first : ℕ) → verdict (recordsFrom file first n) ≡ Accepted

@@ -4,5 +4,6 @@ pub mod Gates
 pub mod Records
 pub mod Views
 pub mod Accepted
+pub mod Numbered
 pub mod Examples
 pub mod Frames

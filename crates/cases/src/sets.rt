@@ -7,6 +7,7 @@ ghost use Rattle.excitation.specs.Excitation.{byteOf};
 ghost use Rattle.excitation.specs.UncertaintySet.{code, decode, single, setsIn};
 ghost use Rattle.cases.specs.Store.{patternByte};
 ghost use Rattle.cases.specs.Case.{undecided, decided, firstAllowed, probe};
+use excitation::Set;
 
 // Whether a set has more than one member.
 pub fn is_undecided(code: u8) -> bool
@@ -34,13 +35,14 @@ pub fn is_decided(codes: &[u8], inputs: usize) -> bool
 fn first_allowed(code: u8) -> u8
     ensures { λ r. ⌜ r ≡ byteOf (firstAllowed (decode code)) ⌝ }
 {
-    if code / 8 % 2 == 1 {
+    let set = Set { code };
+    if set.contains(excitation::LH) {
         return 3;
     }
-    if code / 4 % 2 == 1 {
+    if set.contains(excitation::HL) {
         return 2;
     }
-    if code / 2 % 2 == 1 {
+    if set.contains(excitation::H) {
         return 1;
     }
     0

@@ -15,12 +15,13 @@ use Rattle.block.specs.declared.Refusal.{Refusal}
 use Rattle.block.specs.declared.Verdict.{Verdict}
 use Rattle.block.specs.declared.Verdict.the-variants as verdict-is
 use Rattle.block.proofs.Fields.{within-low}
+use Rattle.block.proofs.Numbered.{Numbered, numbering}
 use Rattle.block.proofs.Verdicts.{listed, listing}
 use Rattle.operation.specs.Operation.{answerAfter, bufferAfter, WorkAfter}
 use Rattle.operation.specs.declared.Currents.{Currents}
 use Rattle.operation.specs.declared.CurrentsAnswer.{CurrentsAnswer}
 use Rattle.operation.specs.declared.CurrentsAnswer.the-variants as answer
-use Rattle.operation.proofs.Operations.{by-file, by-arguments}
+use Rattle.operation.proofs.Operations.{operation-numbered, by-file, by-arguments}
 use Rattle.current.specs.Current.{sheetWords}
 use Rattle.evaluation.specs.Evaluation.{currentsOf, Evaluated}
 use Rattle.envelope.specs.Envelope.{EnvelopeArguments, argumentChecks, envelopeVerdict, givenSheet, Enveloped}
@@ -39,6 +40,15 @@ arguments-right nets hops table sheet work e = record {
   sheet-long = eqb-true sheet 8192 (listed _ e 15 1 _ (search listing));
   work-long = leb-true (160 * nets) work (listed _ e 15 3 _ (search listing));
 }
+
+-- No refusal of Envelope has the number 0.
+arguments-numbered : (nets hops table sheet work : ℕ) → Numbered (argumentChecks nets hops table sheet work)
+unfolding argumentChecks
+arguments-numbered nets hops table sheet work = search numbering depth 10
+
+pub envelope-numbered : (given : EnvelopeArguments) (r : Refusal) → envelopeVerdict given ≡ verdict-is.Refused r → 1 ≤ r .number
+unfolding envelopeVerdict
+envelope-numbered given = operation-numbered (given .file) (arguments-numbered _ _ _ _ _)
 
 module _ (given : EnvelopeArguments) {read : ReadAnswer} (is : read ≡ readOf (given .file)) where
   abbrev checks : ℕ → ℕ → List Check

@@ -1,30 +1,22 @@
 -- Laws of the verdict on an operation's checks: the file's come first, then those of the other arguments, which go by the counts of nets
 -- and inputs.
 -- Assumes nothing.
-use Prim.Native.Nat.{ℕ}
+use Prim.Native.Nat.{ℕ, _≤_}
 use mathlib.Core.List.{List, _++_}
-use mathlib.Core.Path.{_≡_, refl, ap, sym, subst, _∙_}
-use native.Mathlib.Omega.{arith}
+use mathlib.Core.Path.{_≡_, ap, sym, subst, _∙_}
 use Rattle.block.specs.Accepted.{AcceptedFile}
 use Rattle.block.specs.Block.{inputCount}
 use Rattle.block.specs.Record.{File, netCount}
-use Rattle.block.specs.Refusals.{readChecks, answerTo, readOf}
+use Rattle.block.specs.Refusals.{readChecks, readOf}
 use Rattle.block.specs.Verdict.{Check, verdict}
 use Rattle.block.specs.declared.ReadAnswer.{ReadAnswer}
 use Rattle.block.specs.declared.ReadAnswer.the-variants as answer
 use Rattle.block.specs.declared.Refusal.{Refusal}
 use Rattle.block.specs.declared.Verdict.{Verdict}
-use Rattle.block.specs.declared.Verdict.the-variants.{Accepted, Refused}
-use Rattle.block.proofs.Accepted.{accepted}
+use Rattle.block.specs.declared.Verdict.the-variants.{Refused}
+use Rattle.block.proofs.Accepted.{accepted, counts-of, refused-verdict}
+use Rattle.block.proofs.Numbered.{Numbered, numbered-both, refused-numbered, read-checks-numbered}
 use Rattle.block.proofs.Verdicts.{refused-first, accepted-first}
-
-refused-verdict : (file : File) (v : Verdict) (r : Refusal) → answerTo file v ≡ answer.Refused r → v ≡ Refused r
-refused-verdict file Accepted r e = absurd (let z : _≡_ {A = ℕ} 0 1 = cc in omega arith)
-refused-verdict file (Refused s) r e = let z : s ≡ r = cc in ap Refused z
-
-accepted-verdict : (file : File) (v : Verdict) (nets inputs : ℕ) → answerTo file v ≡ answer.Counts nets inputs → v ≡ Accepted
-accepted-verdict file Accepted nets inputs e = refl
-accepted-verdict file (Refused r) nets inputs e = absurd (let z : _≡_ {A = ℕ} 0 1 = cc in omega arith)
 
 after-refusal : (file : File) (rest : List Check) (r : Refusal) → readOf file ≡ answer.Refused r → verdict (readChecks file ++ rest) ≡ Refused r
 unfolding readOf
@@ -33,12 +25,16 @@ after-refusal file rest r e = refused-first (readChecks file) rest r (refused-ve
 after-counts : (file : File) (rest : List Check) (nets inputs : ℕ) → readOf file ≡ answer.Counts nets inputs
     → verdict (readChecks file ++ rest) ≡ verdict rest
 unfolding readOf
-after-counts file rest nets inputs e = accepted-first (readChecks file) rest (accepted-verdict file (verdict (readChecks file)) nets inputs e)
+after-counts file rest nets inputs e = accepted-first (readChecks file) rest (counts-of file (verdict (readChecks file)) nets inputs e .0)
 
 -- A file that Read answered with its counts.
 pub file-accepted : {file : File} {read : ReadAnswer} {nets inputs : ℕ} → read ≡ readOf file → read ≡ answer.Counts nets inputs
     → AcceptedFile file nets inputs
 file-accepted {file} {read} {nets} {inputs} is told = accepted file nets inputs (sym is ∙ told)
+
+-- Where the checks of the other arguments are numbered, no refusal of the operation has the number 0.
+pub operation-numbered : (file : File) {rest : List Check} → Numbered rest → (r : Refusal) → verdict (readChecks file ++ rest) ≡ Refused r → 1 ≤ r .number
+operation-numbered file n = refused-numbered (numbered-both (read-checks-numbered file) n)
 
 -- What an operation promises, P, goes by the verdict on all its checks. It holds where it holds at the verdict that the code comes to: the
 -- refusal that Read answered, or else the verdict on the checks of the other arguments.

@@ -21,6 +21,7 @@ use Rattle.block.specs.Record.{File}
 use Rattle.block.specs.Verdict.{check, verdict, also}
 use Rattle.block.specs.declared.Verdict.{Verdict}
 use Rattle.block.specs.declared.Verdict.the-variants.{Accepted}
+use Rattle.block.proofs.Numbered.{Numbered, numbered-none, numbered-both, numbering}
 use Rattle.block.proofs.Verdicts.{all-passed, more, more-by, stays-accepted, both-accepted, passed}
 use Rattle.operation.specs.Pattern.{byteAllowed, byteChecks}
 
@@ -52,6 +53,11 @@ bytes-pass file pattern zero each = sym all-passed
 bytes-pass file pattern (suc n) each =
     sym (more (byteChecks file pattern n) (check 16 n (byteAllowed file n (getD pattern n 0))) (sym (bytes-pass file pattern n (λ k h. each k (omega arith))))
     (stays-accepted 16 n (each n (omega arith))))
+
+pub bytes-numbered : (file : File) (pattern : List ℕ) (n : ℕ) → Numbered (byteChecks file pattern n)
+unfolding byteChecks listBelow inTurn
+bytes-numbered file pattern zero = numbered-none
+bytes-numbered file pattern (suc n) = numbered-both (bytes-numbered file pattern n) (search numbering)
 
 pub pattern-chosen : (file : File) (pattern : List ℕ) → verdict (byteChecks file pattern (inputCount file)) ≡ Accepted
     → Choice (patternOf (inputCount file) pattern) (frame file)

@@ -1,15 +1,18 @@
--- What accepted arguments of a search are.
+-- What accepted arguments of a search are, and that no refusal has the number 0.
 -- Assumes nothing.
 use Prim.Native.Nat.{ℕ, _+_, _*_, _≤_}
 use mathlib.Core.Bool.{true}
 use mathlib.Core.Path.{_≡_}
 use borrow.Author.Tests.{eqb-true, leb-true}
 use Rattle.block.specs.Verdict.{verdict}
-use Rattle.block.specs.declared.Verdict.the-variants.{Accepted}
+use Rattle.block.specs.declared.Refusal.{Refusal}
+use Rattle.block.specs.declared.Verdict.the-variants.{Accepted, Refused}
 use Rattle.block.proofs.Fields.{within-low, within-high}
+use Rattle.block.proofs.Numbered.{Numbered, numbering}
 use Rattle.block.proofs.Verdicts.{listed, listing}
 use Rattle.operation.specs.Arguments.{tableRight}
-use Rattle.search.specs.Search.{argumentChecks}
+use Rattle.operation.proofs.Operations.{operation-numbered}
+use Rattle.search.specs.Search.{SearchArguments, argumentChecks, searchVerdict}
 
 pub record ArgumentsRight (nets hops table ratio budget sheet pattern work store : ℕ) : Type 0 where
   pub some-hops : 1 ≤ hops
@@ -35,3 +38,12 @@ arguments-right nets hops table ratio budget sheet pattern work store e = record
   work-long = leb-true (160 * nets) work (listed _ e 15 3 _ (search listing depth 10));
   store-long = leb-true (72 * (1 + 3 * budget)) store (listed _ e 15 4 _ (search listing depth 10));
 }
+
+arguments-numbered : (nets hops table ratio budget sheet pattern work store : ℕ)
+    → Numbered (argumentChecks nets hops table ratio budget sheet pattern work store)
+unfolding argumentChecks
+arguments-numbered nets hops table ratio budget sheet pattern work store = search numbering depth 12
+
+pub search-numbered : (given : SearchArguments) (r : Refusal) → searchVerdict given ≡ Refused r → 1 ≤ r .number
+unfolding searchVerdict
+search-numbered given = operation-numbered (given .file) (arguments-numbered _ _ _ _ _ _ _ _ _)

@@ -14,13 +14,15 @@ use Rattle.block.specs.declared.ReadAnswer.the-variants as read-answer
 use Rattle.block.specs.declared.Refusal.{Refusal}
 use Rattle.block.specs.declared.Verdict.{Verdict}
 use Rattle.block.specs.declared.Verdict.the-variants as verdict-is
+use Rattle.block.proofs.Numbered.{Numbered, numbered-both, numbering}
 use Rattle.block.proofs.Verdicts.{listed, listing}
 use Rattle.operation.specs.Operation.{answerAfter, bufferAfter, WorkAfter}
 use Rattle.operation.specs.Pattern.{byteChecks}
 use Rattle.operation.specs.declared.Currents.{Currents}
 use Rattle.operation.specs.declared.CurrentsAnswer.{CurrentsAnswer}
 use Rattle.operation.specs.declared.CurrentsAnswer.the-variants as answer
-use Rattle.operation.proofs.Operations.{by-file, by-arguments}
+use Rattle.operation.proofs.Operations.{operation-numbered, by-file, by-arguments}
+use Rattle.operation.proofs.Patterns.{bytes-numbered}
 use Rattle.current.specs.Current.{sheetWords}
 use Rattle.evaluation.specs.Evaluation.{currentsOf, Evaluated}
 use Rattle.simulator.specs.Simulate.{SimulateArguments, sizeChecks, simulateVerdict, givenSheet, Simulated}
@@ -39,6 +41,15 @@ sizes-right nets table sheet pattern work e = record {
   pattern-long = eqb-true pattern 64 (listed _ e 15 2 _ (search listing));
   work-long = leb-true (160 * nets) work (listed _ e 15 3 _ (search listing));
 }
+
+-- No refusal of Simulate has the number 0.
+sizes-numbered : (nets table sheet pattern work : ℕ) → Numbered (sizeChecks nets table sheet pattern work)
+unfolding sizeChecks
+sizes-numbered nets table sheet pattern work = search numbering depth 10
+
+pub simulate-numbered : (given : SimulateArguments) (r : Refusal) → simulateVerdict given ≡ verdict-is.Refused r → 1 ≤ r .number
+unfolding simulateVerdict
+simulate-numbered given = operation-numbered (given .file) (numbered-both (sizes-numbered _ _ _ _ _) (bytes-numbered (given .file) (given .pattern) _))
 
 module _ (given : SimulateArguments) {read : ReadAnswer} (is : read ≡ readOf (given .file)) where
   abbrev checks : ℕ → ℕ → List Check

@@ -1,0 +1,59 @@
+-- The first number of an answer is 0 exactly where the call was accepted, since no refusal's number is 0.
+-- Assumes nothing.
+use Prim.Native.Nat.{ℕ, _≤_}
+use mathlib.Core.List.{List}
+use mathlib.Core.Path.{_≡_, refl, ap, sym, subst, _∙_}
+use native.Mathlib.Omega.{arith}
+use Rattle.block.specs.Record.{File}
+use Rattle.block.specs.Refusals.{readChecks, answerTo, readOf}
+use Rattle.block.specs.Verdict.{verdict}
+use Rattle.block.specs.declared.Refusal.{Refusal}
+use Rattle.block.specs.declared.Verdict.{Verdict}
+use Rattle.block.specs.declared.Verdict.the-variants.{Accepted, Refused}
+use Rattle.block.proofs.Numbered.{read-numbered}
+use Rattle.block.proofs.Verdicts.{apart}
+use Rattle.operation.specs.Numbers.{readNumbers, currentsNumbers, searchNumbers}
+use Rattle.operation.specs.Operation.{answerAfter}
+use Rattle.operation.specs.declared.Currents.{Currents}
+use Rattle.evaluation.specs.Evaluation.{currentsOf}
+use Rattle.simulator.specs.Simulate as simulate
+use Rattle.simulator.proofs.Answers.{simulate-numbered}
+use Rattle.envelope.specs.Envelope as envelope
+use Rattle.envelope.proofs.Answers.{envelope-numbered}
+use Rattle.search.specs.Search.{searchOf, searchVerdict, searchAnswerAfter}
+use Rattle.search.proofs.Accepted.{search-numbered}
+use Rattle.zimgurav.specs.Accepted.{refusedWith, ZeroMeansAccepted, AcceptedCalls}
+
+-- It is so of every answer that goes by the verdict: with 0 first where it is accepted, and with the refusal's number first where it is not.
+zero-means-accepted : (numbersOf : Verdict → List ℕ) → refusedWith (numbersOf Accepted) ≡ 0
+    → ((r : Refusal) → refusedWith (numbersOf (Refused r)) ≡ r .number)
+    → (v : Verdict) → ((r : Refusal) → v ≡ Refused r → 1 ≤ r .number) → ZeroMeansAccepted v (numbersOf v)
+zero-means-accepted numbersOf zero number Accepted numbered = record { zero-means = λ z. refl; zero-when = λ e. zero }
+zero-means-accepted numbersOf zero number (Refused r) numbered = record {
+  zero-means = λ z. absurd (omega (arith, numbered r refl, number r));
+  zero-when = λ e. apart r e;
+}
+
+currents-accepted : (v : Verdict) (found : Currents) {numbers : List ℕ} → numbers ≡ currentsNumbers (answerAfter v found)
+    → ((r : Refusal) → v ≡ Refused r → 1 ≤ r .number) → ZeroMeansAccepted v numbers
+currents-accepted v found told numbered =
+    subst (ZeroMeansAccepted v) (sym told) (zero-means-accepted (λ w. currentsNumbers (answerAfter w found)) refl (λ r. refl) v numbered)
+
+read-accepted : (file : File) → ZeroMeansAccepted (verdict (readChecks file)) (readNumbers (readOf file))
+unfolding readOf
+read-accepted file =
+    zero-means-accepted (λ v. readNumbers (answerTo file v)) refl (λ r. refl) (verdict (readChecks file)) (λ r e. read-numbered file r (ap (answerTo file) e))
+
+pub accepted-calls : AcceptedCalls
+accepted-calls = record {
+  read = read-accepted;
+  envelope = λ given sheet′ work′ numbers call.
+      currents-accepted (envelope.envelopeVerdict given) (currentsOf (given .file) (given .table) (envelope.givenSheet given)) (call .answered)
+      (envelope-numbered given);
+  simulate = λ given sheet′ work′ numbers call.
+      currents-accepted (simulate.simulateVerdict given) (currentsOf (given .file) (given .table) (simulate.givenSheet given)) (call .answered)
+      (simulate-numbered given);
+  search = λ given sheet′ pattern′ work′ store′ numbers call.
+      subst (ZeroMeansAccepted (searchVerdict given)) (sym (call .numbered ∙ ap searchNumbers (call .searched .answered)))
+      (zero-means-accepted (λ v. searchNumbers (searchAnswerAfter v (searchOf given))) refl (λ r. refl) (searchVerdict given) (search-numbered given));
+}
