@@ -1,7 +1,8 @@
 //! Damage to block files and to the other arguments of a call.
 
-use super::{store_length, Arguments, Random};
+use super::{Arguments, Random};
 use crate::kind::INPUT;
+use zimgurav::store_bytes;
 
 /// Values at the edges of the fields' ranges and just past them.
 const EDGES: [u8; 14] = [0, 1, 2, 4, 5, 9, 10, 15, 16, 63, 64, 127, 128, 255];
@@ -45,7 +46,7 @@ pub fn spoil(random: &mut Random, arguments: &mut Arguments) {
         6 => arguments.ratio = random.pick(&[0, 999, 10_001, 1 << 32, u64::MAX]),
         7 => arguments.budget = random.pick(&[10_000, 10_001, 1 << 32, u64::MAX]),
         8 => {
-            let least = store_length(arguments.budget.min(60));
+            let least = store_bytes(arguments.budget.min(60));
             arguments.store.truncate(random.pick(&[0, 71, least - 1]));
         }
         _ => {
