@@ -6,7 +6,7 @@
  * - A slice is a pointer and a length, which counts elements, not bytes. The pointer is good for that many elements.
  *   Pointers are aligned for their types and not null, also where the length is 0; then nothing is read or written.
  * - What a pointer that is not const points to, the answer among them, overlaps nothing else that the call is lent.
- *   What is only read may overlap.
+ *   What is only read may overlap. What is lent to be written may hold anything before.
  * - Until the call returns, no other thread writes what it is lent, or reads what is lent to be written.
  *
  * The library allocates nothing, keeps nothing between calls and has no data that can change, so that any number of

@@ -8,7 +8,7 @@ use check::pattern::{H, HL, L, LH};
 use check::sample::{
     self, drawing, gate, input, patterns, silent, Arguments, Random, Record, Shape,
 };
-use zimgurav::{work_bytes, Currents, Refusal, Word, ROW_TICKS, SHEET_WORDS};
+use zimgurav::{work_bytes, Currents, Refusal, Word, RECORD_BYTES, ROW_TICKS, SHEET_WORDS};
 
 /// Checks the drop, the quiet tick and every word of the sheet. A row is written from tick 0 and is
 /// 0 after what is written; the contacts that have no row draw nothing.
@@ -503,7 +503,7 @@ mod buffers {
     fn to_write_may_hold_anything() {
         let mut random = Random::new(3);
         for arguments in samples(3, 100) {
-            let least = work_bytes(arguments.file.len() as u64 / 20);
+            let least = work_bytes((arguments.file.len() / RECORD_BYTES) as u64);
             for call in OPERATIONS {
                 let mut clean = arguments.clone();
                 clean.sheet.fill(0);
