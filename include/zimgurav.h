@@ -1,7 +1,7 @@
 /* Zimgurav: proved ceilings on the supply current of a gate block.
  *
- * The calls. Every value of every argument is accepted or refused; none is undefined behaviour, as long as the caller
- * keeps to the following.
+ * The library, libzimgurav.a, is for x86-64. Every value of every argument is accepted or refused; none is undefined
+ * behaviour, as long as the caller keeps to the following.
  *
  * - A slice is a pointer and a length, which counts elements, not bytes. The pointer is good for that many elements.
  *   Pointers are aligned for their types and not null, also where the length is 0; then nothing is read or written.
@@ -9,7 +9,7 @@
  *   What is only read may overlap. What is lent to be written may hold anything before.
  * - Until the call returns, no other thread writes what it is lent, or reads what is lent to be written.
  *
- * The library allocates nothing, keeps nothing between calls and has no data that can change, so that any number of
+ * It allocates nothing, keeps nothing between calls and has no data that can change, so that any number of
  * threads may call at once. It calls nothing but memcpy and memset. A call takes less than ZIMGURAV_STACK_BYTES of
  * stack.
  *
@@ -26,11 +26,11 @@
  *   bytes 4 to 11  the nets of the four pins, each below the record's own; 0 where unused
  *   bytes 12, 13   rise and fall of a pulse in ticks, each 1 to 127
  *   bytes 14 to 17 peaks of the pulses for lh and for hl, in microamperes
- *   byte 18        0; of an input the excitations that it is allowed, a sum of 1 (l), 2 (h), 4 (hl), 8 (lh)
+ *   byte 18        of an input the excitations that it is allowed, a sum of 1 (l), 2 (h), 4 (hl), 8 (lh); of a gate 0
  *   byte 19        0
  *
- * Inputs come first, and all else in them is 0. The arrival of a net is 0 for an input, and for a gate the greatest
- * arrival of its pins plus its delay.
+ * Inputs come before gates, and their other bytes are 0. The arrival of a net is 0 for an input, and for a gate the
+ * greatest arrival of its pins plus its delay.
  */
 #ifndef ZIMGURAV_H
 #define ZIMGURAV_H

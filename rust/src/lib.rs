@@ -1,7 +1,8 @@
 //! Proved ceilings on the supply current of a gate block, as document 01 specifies them.
 //!
 //! The functions here are safe forms of the proved library's own, which are in [`raw`]. Every value
-//! of every argument is accepted or refused; a refused call has changed no lent buffer.
+//! of every argument is accepted or refused; a refused call has changed no lent buffer. The layout
+//! of a block file is in `include/zimgurav.h`.
 //!
 //! The library allocates nothing, keeps nothing between calls and has no data that can change, so
 //! that any number of threads may call at once. It calls nothing but `memcpy` and `memset`. A call
