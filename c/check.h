@@ -1,4 +1,4 @@
-/* What the C tests share: sizes, block S of document 01, and the comparison of an answer. */
+/* What the C tests share: short names for the sizes, block S of document 01, and the comparison of an answer. */
 #ifndef CHECK_H
 #define CHECK_H
 
@@ -8,7 +8,15 @@
 
 #include "zimgurav.h"
 
-enum { NUMBERS = 6, RECORD = 20, CONTACTS = 16, TICKS = 512, WORDS = CONTACTS * TICKS, PATTERN = 64 };
+enum {
+    NUMBERS = ZIMGURAV_ANSWER_NUMBERS,
+    RECORD = ZIMGURAV_RECORD_BYTES,
+    CONTACTS = ZIMGURAV_CONTACTS,
+    TICKS = ZIMGURAV_ROW_TICKS,
+    WORDS = ZIMGURAV_SHEET_WORDS,
+    PATTERN = ZIMGURAV_PATTERN_BYTES,
+    CASE = ZIMGURAV_CASE_BYTES
+};
 
 /* Nets 1 and 2 are BUF and NOT of net 0. Each draws current only where it rises, so only one of them does. */
 static const uint8_t block_s[3 * RECORD] = {
@@ -17,7 +25,7 @@ static const uint8_t block_s[3 * RECORD] = {
     8, 0, 1, 1, 0, 0, 0, 0, 0, 0, 0, 0, 1, 1, 10, 0, 0, 0, 0,  0,
 };
 
-/* Returns how many of the six numbers are not as expected. */
+/* Returns how many of the eight numbers are not as expected. */
 static int check_numbers(const char *name, const uint64_t answer[NUMBERS], const uint64_t expected[NUMBERS])
 {
     int wrong = 0;

@@ -16,8 +16,8 @@ static const uint16_t table[CONTACTS] = {2, 1};
 
 /* What a call is lent to write, and the answer. */
 struct lent {
-    uint32_t sheet[WORDS];
-    uint8_t work[160 * NETS];
+    zimgurav_word sheet[WORDS];
+    uint8_t work[ZIMGURAV_WORK_BYTES(NETS)];
     uint64_t answer[NUMBERS];
 };
 
@@ -31,17 +31,17 @@ static void prepare(void)
 }
 
 /* Returns how many words of the sheet are not as expected: the first 8 ticks of contacts 0 and 1, and 0 elsewhere. */
-static int check_sheet(const char *name, const uint32_t first[2][8])
+static int check_sheet(const char *name, const zimgurav_word first[2][8])
 {
     int wrong = 0;
 
     for (int contact = 0; contact < CONTACTS; contact++) {
         for (int tick = 0; tick < TICKS; tick++) {
-            const uint32_t expected = contact < 2 && tick < 8 ? first[contact][tick] : 0;
-            const uint32_t current = lent.sheet[TICKS * contact + tick];
+            const uint64_t expected = contact < 2 && tick < 8 ? first[contact][tick] : 0;
+            const uint64_t current = lent.sheet[TICKS * contact + tick];
 
             if (current != expected) {
-                fprintf(stderr, "%s: %" PRIu32 " at contact %d, tick %d, not %" PRIu32 "\n", name, current, contact,
+                fprintf(stderr, "%s: %" PRIu64 " at contact %d, tick %d, not %" PRIu64 "\n", name, current, contact,
                         tick, expected);
                 wrong++;
             }
@@ -78,10 +78,10 @@ static void simulate(const uint8_t pattern[PATTERN])
 int main(void)
 {
     const uint64_t currents[NUMBERS] = {0, 55, 5};
-    const uint64_t hop_limit[NUMBERS] = {11};
-    const uint64_t pattern_byte[NUMBERS] = {16, 1};
-    const uint32_t ceiling[2][8] = {{0, 20, 10, 0}, {0, 15, 31, 31, 15, 0}};
-    const uint32_t both_rise[2][8] = {{0, 20, 10, 0}, {0, 15, 31, 30, 15}};
+    const uint64_t hop_limit[NUMBERS] = {ZIMGURAV_REFUSED_HOP_LIMIT};
+    const uint64_t pattern_byte[NUMBERS] = {ZIMGURAV_REFUSED_PATTERN, 1};
+    const zimgurav_word ceiling[2][8] = {{0, 20, 10, 0}, {0, 15, 31, 31, 15, 0}};
+    const zimgurav_word both_rise[2][8] = {{0, 20, 10, 0}, {0, 15, 31, 30, 15}};
     uint8_t pattern[PATTERN] = {3, 3};
     int wrong = 0;
 
@@ -89,7 +89,7 @@ int main(void)
     wrong += check_numbers("envelope", lent.answer, currents);
     wrong += check_sheet("envelope", ceiling);
 
-    envelope(17);
+    envelope(ZIMGURAV_MOST_HOPS + 1);
     wrong += check_numbers("envelope, 17 hops", lent.answer, hop_limit);
     wrong += check_untouched("envelope, 17 hops");
 

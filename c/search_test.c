@@ -1,17 +1,18 @@
 /* Search through the C header: block S of document 01 with each outcome, and a refusal. */
 #include "check.h"
 
-enum { NETS = 3, BUDGET = 200, CASE = 72, UPPER = 64, CASES = 1 + 3 * BUDGET };
+/* The upper number of a case stands after its sets. */
+enum { NETS = 3, BUDGET = 200, UPPER = 64 };
 
 /* One bus node, with a resistance to contact 0. */
 static const uint16_t table[CONTACTS] = {1};
 
 /* What a call is lent to write, and the answer. */
 struct lent {
-    uint32_t sheet[WORDS];
+    zimgurav_word sheet[WORDS];
     uint8_t pattern[PATTERN];
-    uint8_t work[160 * NETS];
-    uint8_t store[CASE * CASES];
+    uint8_t work[ZIMGURAV_WORK_BYTES(NETS)];
+    uint8_t store[ZIMGURAV_STORE_BYTES(BUDGET)];
     uint64_t answer[NUMBERS];
 };
 
@@ -27,16 +28,16 @@ static void search(uint64_t ratio, uint64_t budget)
 }
 
 /* Returns how many words of the sheet are not as expected: `current` at contact 0, tick 1, and 0 elsewhere. */
-static int check_sheet(const char *name, uint32_t current)
+static int check_sheet(const char *name, zimgurav_word current)
 {
     int wrong = 0;
 
     for (int word = 0; word < WORDS; word++) {
-        const uint32_t expected = word == 1 ? current : 0;
+        const uint64_t expected = word == 1 ? current : 0;
+        const uint64_t found = lent.sheet[word];
 
-        if (lent.sheet[word] != expected) {
-            fprintf(stderr, "%s: word %d of the sheet is %" PRIu32 ", not %" PRIu32 "\n", name, word, lent.sheet[word],
-                    expected);
+        if (found != expected) {
+            fprintf(stderr, "%s: word %d of the sheet is %" PRIu64 ", not %" PRIu64 "\n", name, word, found, expected);
             wrong++;
         }
     }
@@ -87,8 +88,8 @@ static int check_untouched(const char *name)
 }
 
 /* Searches, and checks the answer, the current at tick 1, the pattern and the cases in the store. */
-static int check_search(const char *name, uint64_t ratio, uint64_t budget, const uint64_t *numbers, uint32_t current,
-                        const uint8_t cases[][2], size_t count)
+static int check_search(const char *name, uint64_t ratio, uint64_t budget, const uint64_t *numbers,
+                        zimgurav_word current, const uint8_t cases[][2], size_t count)
 {
     search(ratio, budget);
     return check_numbers(name, lent.answer, numbers) + check_sheet(name, current) + check_pattern(name) +
@@ -97,10 +98,10 @@ static int check_search(const char *name, uint64_t ratio, uint64_t budget, const
 
 int main(void)
 {
-    const uint64_t exact[NUMBERS] = {0, 0, 10, 10, 1, 4};
-    const uint64_t within[NUMBERS] = {0, 1, 20, 10, 0, 1};
-    const uint64_t spent[NUMBERS] = {0, 2, 20, 10, 0, 1};
-    const uint64_t budget[NUMBERS] = {14};
+    const uint64_t exact[NUMBERS] = {0, ZIMGURAV_EXACT, 10, 10, 1, 4};
+    const uint64_t within[NUMBERS] = {0, ZIMGURAV_WITHIN, 20, 10, 0, 1};
+    const uint64_t spent[NUMBERS] = {0, ZIMGURAV_SPENT, 20, 10, 0, 1};
+    const uint64_t budget[NUMBERS] = {ZIMGURAV_REFUSED_BUDGET};
     const uint8_t whole_frame[][2] = {{15, 20}};
     const uint8_t l_h_hl_lh[][2] = {{1, 0}, {2, 0}, {4, 10}, {8, 10}};
     int wrong = 0;
@@ -109,7 +110,7 @@ int main(void)
     wrong += check_search("ratio 2,000", 2000, 0, within, 20, whole_frame, 1);
     wrong += check_search("ratio 1,999", 1999, 0, spent, 20, whole_frame, 1);
 
-    search(1000, 10001);
+    search(1000, ZIMGURAV_MOST_BUDGET + 1);
     wrong += check_numbers("budget 10,001", lent.answer, budget);
     wrong += check_untouched("budget 10,001");
     return wrong != 0;

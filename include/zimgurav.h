@@ -1,13 +1,36 @@
 /* Zimgurav: proved ceilings on the supply current of a gate block.
  *
- * A slice is a pointer and a length. A length counts elements, not bytes; the pointer may be anything that is not
- * null where the length is 0. Every value of every argument is accepted or refused; none is undefined behaviour, as
- * long as each pointer is good for its length and aligned for its type, and no two lent buffers overlap.
+ * The library, libzimgurav.a, is for x86-64. Every value of every argument is accepted or refused; none is undefined
+ * behaviour, as long as the caller keeps to the following.
  *
- * An answer is six numbers. answer[0] is 0 where the call was accepted. Else it is the refusal's number, answer[1]
- * is its place, the rest are 0, and no lent buffer but the answer was changed.
+ * - A slice is a pointer and a length, which counts elements, not bytes. The pointer is good for that many elements.
+ *   Pointers are aligned for their types and not null, also where the length is 0; then nothing is read or written.
+ * - What a pointer that is not const points to, the answer among them, overlaps nothing else that the call is lent.
+ *   What is only read may overlap. What is lent to be written may hold anything before.
+ * - Until the call returns, no other thread writes what it is lent, or reads what is lent to be written.
  *
- * A sheet is 16 rows of 512 ticks, contact 0 first, in microamperes.
+ * It allocates nothing, keeps nothing between calls and has no data that can change, so that any number of
+ * threads may call at once. It calls nothing but memcpy and memset. A call takes less than ZIMGURAV_STACK_BYTES of
+ * stack.
+ *
+ * An answer is eight numbers, 0 past those that are named here. answer[0] is 0 where the call was accepted. Else it
+ * is the refusal's number, answer[1] is its place, and no lent buffer but the answer was changed.
+ *
+ * A block file has a record for each net and nothing else. The number of a net is that of its record, from 0. Numbers
+ * of two bytes have the low byte first.
+ *
+ *   byte 0         kind: 1 input, 2 AND, 3 NAND, 4 OR, 5 NOR, 6 XOR, 7 XNOR, 8 NOT, 9 BUF
+ *   byte 1         contact, 0 to 15
+ *   byte 2         delay in ticks, 1 to 63
+ *   byte 3         how many pins are used: 1 for NOT and BUF, 2 to 4 for the other gates
+ *   bytes 4 to 11  the nets of the four pins, each below the record's own; 0 where unused
+ *   bytes 12, 13   rise and fall of a pulse in ticks, each 1 to 127
+ *   bytes 14 to 17 peaks of the pulses for lh and for hl, in microamperes
+ *   byte 18        of an input the excitations that it is allowed, a sum of 1 (l), 2 (h), 4 (hl), 8 (lh); of a gate 0
+ *   byte 19        0
+ *
+ * Inputs come before gates, and their other bytes are 0. The arrival of a net is 0 for an input, and for a gate the
+ * greatest arrival of its pins plus its delay.
  */
 #ifndef ZIMGURAV_H
 #define ZIMGURAV_H
@@ -19,51 +42,138 @@
 extern "C" {
 #endif
 
-/* Reads a block file, checks 1 to 10. Accepted: answer[1] nets, answer[2] inputs, then 0. */
-void zimgurav_read(const uint8_t *file, size_t file_length, uint64_t answer[6]);
+/* The version of the calls. It goes up with every change of what a call takes, answers or writes: two builds of one
+ * version give the same answers and the same sheets. */
+#define ZIMGURAV_VERSION 1
 
-/* Writes a ceiling on the current of each contact at each tick into the sheet, checks 1 to 12 and 15.
- * Accepted: answer[1] drop in nanovolts, answer[2] a tick after which every row of the sheet is 0, then 0.
+/* The version of the linked library, which has to be ZIMGURAV_VERSION. */
+uint64_t zimgurav_version(void);
+
+/* A word of a sheet: a current in microamperes. */
+typedef uint32_t zimgurav_word;
+
+#define ZIMGURAV_RECORD_BYTES 20     /* bytes of a record of a block file */
+#define ZIMGURAV_CONTACTS 16         /* contacts: rows of a sheet, and resistances of a bus node in a table */
+#define ZIMGURAV_ROW_TICKS 512       /* ticks of a row: its words */
+#define ZIMGURAV_SHEET_WORDS 8192    /* words of a sheet: its rows, contact 0 first */
+#define ZIMGURAV_PATTERN_BYTES 64    /* bytes of a pattern */
+#define ZIMGURAV_CASE_BYTES 72       /* bytes of a case in the store */
+#define ZIMGURAV_ANSWER_NUMBERS 8    /* numbers of an answer */
+#define ZIMGURAV_STACK_BYTES 49152   /* bytes of stack that are enough for any call */
+
+#define ZIMGURAV_MOST_NETS 1024      /* the most nets of a block: its records */
+#define ZIMGURAV_MOST_INPUTS 64      /* the most inputs of a block */
+#define ZIMGURAV_MOST_HOPS 16        /* the greatest hop limit; the least is 1 */
+#define ZIMGURAV_MOST_NODES 16       /* the most bus nodes of a table; the least number is 1 */
+#define ZIMGURAV_LEAST_RATIO 1000    /* the least ratio */
+#define ZIMGURAV_MOST_RATIO 10000    /* the greatest ratio */
+#define ZIMGURAV_MOST_BUDGET 10000   /* the greatest budget; the least is 0 */
+
+/* The least bytes of the work buffer for a block of so many nets. */
+#define ZIMGURAV_WORK_BYTES(nets) ((size_t)160 * (size_t)(nets))
+
+/* The least bytes of the case store for such a budget. */
+#define ZIMGURAV_STORE_BYTES(budget) ((size_t)ZIMGURAV_CASE_BYTES * (1 + 3 * (size_t)(budget)))
+
+/* The refusals, by their numbers. Of several that apply the lowest is answered, but of 4 to 10 that of the lowest net.
+ * The place is 0 where none is named. */
+enum zimgurav_refusal {
+    /* The file's length is not a multiple of 20 bytes. */
+    ZIMGURAV_REFUSED_LENGTH = 1,
+    /* The file has more than 1,024 records. */
+    ZIMGURAV_REFUSED_RECORDS = 2,
+    /* The file has no record, or its first record is not an input. */
+    ZIMGURAV_REFUSED_FIRST = 3,
+    /* A record's kind is 0 or above 9. The place is its net. */
+    ZIMGURAV_REFUSED_KIND = 4,
+    /* An input stands after a gate, or is the 65th. The place is its net. */
+    ZIMGURAV_REFUSED_INPUT = 5,
+    /* A gate's pin count is wrong for its kind. The place is its net. */
+    ZIMGURAV_REFUSED_PIN_COUNT = 6,
+    /* A byte that has to be 0 is not: 1 to 17 or 19 of an input, or an unused pin, 18 or 19 of a gate.
+     * The place is the net. */
+    ZIMGURAV_REFUSED_STRAY_BYTE = 7,
+    /* A gate's pin is not a net below its own. The place is the gate's net. */
+    ZIMGURAV_REFUSED_PIN = 8,
+    /* A gate's contact, delay, rise or fall, or an input's set of allowed excitations, is out of range.
+     * The place is the net. */
+    ZIMGURAV_REFUSED_RANGE = 9,
+    /* A gate's arrival is after tick 255. The place is its net. */
+    ZIMGURAV_REFUSED_ARRIVAL = 10,
+    /* The hop limit is not 1 to 16. */
+    ZIMGURAV_REFUSED_HOP_LIMIT = 11,
+    /* The table does not have 16 resistances for each of 1 to 16 bus nodes. */
+    ZIMGURAV_REFUSED_TABLE = 12,
+    /* The ratio is not 1,000 to 10,000. */
+    ZIMGURAV_REFUSED_RATIO = 13,
+    /* The budget is above 10,000. */
+    ZIMGURAV_REFUSED_BUDGET = 14,
+    /* A lent buffer has the wrong size. The place is 1 for the sheet, 2 for the pattern, 3 for the work buffer, 4 for
+     * the case store; of several the lowest. */
+    ZIMGURAV_REFUSED_BUFFER = 15,
+    /* An input's byte of the pattern is no excitation that the input is allowed. The place is its net, of several the
+     * lowest. */
+    ZIMGURAV_REFUSED_PATTERN = 16
+};
+
+/* How a search ended. */
+enum zimgurav_outcome {
+    /* The bounds are equal. */
+    ZIMGURAV_EXACT = 0,
+    /* They are not, but the upper bound is at most ratio / 1000 times the lower. */
+    ZIMGURAV_WITHIN = 1,
+    /* Neither, and the budget is spent. */
+    ZIMGURAV_SPENT = 2
+};
+
+/* Reads a block file. Refusals 1 to 10. Accepted: answer[1] nets, answer[2] inputs. */
+void zimgurav_read(
+    const uint8_t *file, size_t file_length, /* the block file */
+    uint64_t answer[ZIMGURAV_ANSWER_NUMBERS]);
+
+/* Writes a ceiling on the current of each contact at each tick into the sheet. Refusals 1 to 12 and 15.
+ * Accepted: answer[1] drop in nanovolts, answer[2] a tick after which every row of the sheet is 0.
  */
 void zimgurav_envelope(
-    const uint8_t *file, size_t file_length,    /* the block file, 20 bytes a net */
-    uint64_t hop_limit,                         /* the most runs that a gate's sets keep for an excitation, 1 to 16 */
-    const uint16_t *table, size_t table_length, /* 16 resistances in milliohms for each of 1 to 16 bus nodes */
-    uint32_t *sheet, size_t sheet_length,       /* the sheet, 8,192 words */
-    uint8_t *work, size_t work_length,          /* at least 160 bytes a net; means nothing after an accepted call */
-    uint64_t answer[6]);
+    const uint8_t *file, size_t file_length,    /* the block file */
+    uint64_t hop_limit,                         /* the most runs that a gate's sets keep for an excitation */
+    const uint16_t *table, size_t table_length, /* for each bus node the resistances to the contacts, in milliohms */
+    zimgurav_word *sheet, size_t sheet_length,  /* ZIMGURAV_SHEET_WORDS */
+    uint8_t *work, size_t work_length,          /* at least ZIMGURAV_WORK_BYTES; means nothing after an accepted call */
+    uint64_t answer[ZIMGURAV_ANSWER_NUMBERS]);
 
-/* Writes the current of each contact at each tick under one pattern into the sheet, checks 1 to 10, 12, 15 and 16.
- * Accepted: answer[1] drop in nanovolts, answer[2] a tick after which every row of the sheet is 0, then 0.
+/* Writes the current of each contact at each tick under one pattern into the sheet. Refusals 1 to 10, 12, 15 and 16.
+ * Accepted: answer[1] drop in nanovolts, answer[2] a tick after which every row of the sheet is 0.
+ *
+ * Byte i of a pattern is the excitation of input net i: 0 l, 1 h, 2 hl, 3 lh. Bytes past the inputs are not read.
  */
 void zimgurav_simulate(
-    const uint8_t *file, size_t file_length,       /* the block file, 20 bytes a net */
-    const uint16_t *table, size_t table_length,    /* 16 resistances in milliohms for each of 1 to 16 bus nodes */
-    uint32_t *sheet, size_t sheet_length,          /* the sheet, 8,192 words */
-    const uint8_t *pattern, size_t pattern_length, /* 64 bytes, byte i for input net i: 0 l, 1 h, 2 hl, 3 lh */
-    uint8_t *work, size_t work_length,             /* at least 160 bytes a net; means nothing after an accepted call */
-    uint64_t answer[6]);
+    const uint8_t *file, size_t file_length,       /* the block file */
+    const uint16_t *table, size_t table_length,    /* as for zimgurav_envelope */
+    zimgurav_word *sheet, size_t sheet_length,     /* ZIMGURAV_SHEET_WORDS */
+    const uint8_t *pattern, size_t pattern_length, /* ZIMGURAV_PATTERN_BYTES */
+    uint8_t *work, size_t work_length,             /* as for zimgurav_envelope */
+    uint64_t answer[ZIMGURAV_ANSWER_NUMBERS]);
 
-/* Searches, best first, for bounds on the greatest drop of any pattern of the block, checks 1 to 15. Writes a ceiling
- * on the current of each contact at each tick into the sheet, and a pattern that drops the lower bound.
+/* Searches, best first, for bounds on the greatest drop of any pattern of the block. Refusals 1 to 15. Writes a
+ * ceiling on the current of each contact at each tick into the sheet, and a pattern that drops the lower bound.
  * Accepted: answer[1] outcome, answer[2] upper and answer[3] lower bound in nanovolts, answer[4] how many cases were
- * split, answer[5] how many cases the store holds. The outcome is 0 exact (the bounds are equal), 1 within (the upper
- * is at most ratio / 1000 times the lower) or 2 spent (neither, and the budget is spent).
+ * split, answer[5] how many cases the store holds.
  *
- * A case in the store is 72 bytes: the set of each input, 0 past the inputs, 64 bytes, and the case's upper number,
- * 8 bytes, low first. A set is a sum of 1 (l), 2 (h), 4 (hl), 8 (lh).
+ * A case in the store is 64 bytes with the set of each input, 0 past the inputs, then its upper number, 8 bytes, low
+ * first. A set is a sum of 1 (l), 2 (h), 4 (hl), 8 (lh).
  */
 void zimgurav_search(
-    const uint8_t *file, size_t file_length,    /* the block file, 20 bytes a net */
-    uint64_t hop_limit,                         /* the most runs that a gate's sets keep for an excitation, 1 to 16 */
-    const uint16_t *table, size_t table_length, /* 16 resistances in milliohms for each of 1 to 16 bus nodes */
-    uint64_t ratio,                             /* upper / lower bound to reach, in thousandths, 1,000 to 10,000 */
-    uint64_t budget,                            /* the most cases to split, 0 to 10,000 */
-    uint32_t *sheet, size_t sheet_length,       /* the sheet, 8,192 words */
-    uint8_t *pattern, size_t pattern_length,    /* 64 bytes, as in zimgurav_simulate; unchanged past the inputs */
-    uint8_t *work, size_t work_length,          /* at least 160 bytes a net; means nothing after an accepted call */
-    uint8_t *store, size_t store_length,        /* at least 72 * (1 + 3 * budget) bytes; unchanged past the cases */
-    uint64_t answer[6]);
+    const uint8_t *file, size_t file_length,    /* the block file */
+    uint64_t hop_limit,                         /* as for zimgurav_envelope */
+    const uint16_t *table, size_t table_length, /* as for zimgurav_envelope */
+    uint64_t ratio,                             /* upper / lower bound to reach, in thousandths */
+    uint64_t budget,                            /* the most cases to split */
+    zimgurav_word *sheet, size_t sheet_length,  /* ZIMGURAV_SHEET_WORDS */
+    uint8_t *pattern, size_t pattern_length,    /* ZIMGURAV_PATTERN_BYTES; unchanged past the inputs */
+    uint8_t *work, size_t work_length,          /* as for zimgurav_envelope */
+    uint8_t *store, size_t store_length,        /* at least ZIMGURAV_STORE_BYTES; unchanged past the cases */
+    uint64_t answer[ZIMGURAV_ANSWER_NUMBERS]);
 
 #ifdef __cplusplus
 }

@@ -4,10 +4,10 @@ use std::env;
 use std::fs;
 use std::process::ExitCode;
 
-use zimgurav::{Outcome, Refusal};
+use zimgurav::{store_bytes, work_bytes, Refusal, CONTACTS, PATTERN_BYTES, ROW_TICKS, SHEET_WORDS};
 
-/// One bus node, with 16 resistances of 1 milliohm.
-const TABLE: [u16; 16] = [1; 16];
+/// One bus node, with a resistance of 1 milliohm to each contact.
+const TABLE: [u16; CONTACTS] = [1; CONTACTS];
 
 fn main() -> ExitCode {
     let arguments: Vec<_> = env::args_os().skip(1).collect();
@@ -31,10 +31,10 @@ fn main() -> ExitCode {
 fn compare(file: &[u8]) -> Result<(), Refusal> {
     let counts = zimgurav::read(file)?;
     let budget = 200;
-    let mut ceiling = vec![0; 8192];
-    let mut pattern = [0; 64];
-    let mut work = vec![0; 160 * counts.nets as usize];
-    let mut store = vec![0; 72 * (1 + 3 * budget as usize)];
+    let mut ceiling = vec![0; SHEET_WORDS];
+    let mut pattern = [0; PATTERN_BYTES];
+    let mut work = vec![0; work_bytes(counts.nets)];
+    let mut store = vec![0; store_bytes(budget)];
     let found = zimgurav::search(
         file,
         10,
@@ -46,17 +46,16 @@ fn compare(file: &[u8]) -> Result<(), Refusal> {
         &mut work,
         &mut store,
     )?;
-    let outcome = match found.outcome {
-        Outcome::Exact => "exact",
-        Outcome::Within => "within",
-        Outcome::Spent => "spent",
-    };
-    println!("search: {outcome}, U {}, L {}", found.upper, found.lower);
+    println!(
+        "search: {}, U {}, L {}",
+        found.outcome, found.upper, found.lower
+    );
 
-    let mut sheet = vec![0; 8192];
+    let mut sheet = vec![0; SHEET_WORDS];
     let simulated = zimgurav::simulate(file, &TABLE, &mut sheet, &pattern, &mut work)?;
     println!("the pattern handed over drops {}", simulated.drop);
-    for (contact, (row, limits)) in sheet.chunks(512).zip(ceiling.chunks(512)).enumerate() {
+    let rows = sheet.chunks(ROW_TICKS).zip(ceiling.chunks(ROW_TICKS));
+    for (contact, (row, limits)) in rows.enumerate() {
         let peak = row.iter().max().unwrap_or(&0);
         let limit = limits.iter().max().unwrap_or(&0);
         if *limit > 0 {

@@ -1,8 +1,18 @@
 //! Proved ceilings on the supply current of a gate block, as document 01 specifies them.
 //!
-//! The functions here are safe forms of the proved library's own, which are in [`raw`].
+//! The functions here are safe forms of the proved library's own, which are in [`raw`]. Every value
+//! of every argument is accepted or refused; a refused call has changed no lent buffer. The layout
+//! of a block file is in `include/zimgurav.h`.
+//!
+//! The library allocates nothing, keeps nothing between calls and has no data that can change, so
+//! that any number of threads may call at once. It calls nothing but `memcpy` and `memset`. A call
+//! takes less than [`STACK_BYTES`] of stack.
 
 pub mod raw;
+pub mod refused;
+mod sizes;
+
+pub use sizes::*;
 
 use std::error::Error;
 use std::fmt;
@@ -64,113 +74,134 @@ pub struct Found {
 /// Why a call was refused. No lent buffer was changed.
 #[derive(Clone, Copy, Debug, PartialEq, Eq)]
 pub struct Refusal {
-    /// The number in document 01's list of refusals.
+    /// Which of the refusals it is; [`refused`] has their names and says what each means.
     pub number: u64,
-    /// The net, the input net or the buffer that the refusal is about, else 0.
+    /// The net or the lent buffer that the refusal is about, else 0.
     pub place: u64,
 }
 
 impl fmt::Display for Refusal {
     fn fmt(&self, f: &mut fmt::Formatter) -> fmt::Result {
-        write!(f, "refused {} {}", self.number, self.place)
+        write!(f, "refused {}", self.number)?;
+        match (self.number, self.place) {
+            (refused::KIND..=refused::ARRIVAL | refused::PATTERN, net) => {
+                write!(f, " at net {net}")
+            }
+            (refused::BUFFER, 1) => f.write_str(" at the sheet"),
+            (refused::BUFFER, 2) => f.write_str(" at the pattern"),
+            (refused::BUFFER, 3) => f.write_str(" at the work buffer"),
+            (refused::BUFFER, 4) => f.write_str(" at the case store"),
+            _ => Ok(()),
+        }?;
+        let meaning = refused::meaning(self.number).unwrap_or("no such refusal is known");
+        write!(f, ": {meaning}")
     }
 }
 
 impl Error for Refusal {}
 
-/// Reads a block file: checks 1 to 10.
-pub fn read(file: &[u8]) -> Result<Counts, Refusal> {
-    let mut answer = [0; 6];
-    // SAFETY: both pointers are good for their lengths, and the answer is a buffer of its own.
-    unsafe { raw::zimgurav_read(file.as_ptr(), file.len(), &mut answer) };
-    match answer {
-        [0, nets, inputs, ..] => Ok(Counts { nets, inputs }),
-        [number, place, ..] => Err(Refusal { number, place }),
-    }
+/// The version of the linked library, which has to be [`VERSION`].
+pub fn version() -> u64 {
+    raw::zimgurav_version()
 }
 
-/// Writes a ceiling on the current of each contact at each tick into the sheet: checks 1 to 12
+/// Reads a block file: refusals 1 to 10.
+pub fn read(file: &[u8]) -> Result<Counts, Refusal> {
+    let [nets, inputs, ..] = values(|answer| {
+        // SAFETY: both pointers are of references, and the answer's is to nothing else.
+        unsafe { raw::zimgurav_read(file.as_ptr(), file.len(), answer) }
+    })?;
+    Ok(Counts { nets, inputs })
+}
+
+/// Writes a ceiling on the current of each contact at each tick into the sheet: refusals 1 to 12
 /// and 15.
 ///
-/// - `hop_limit`: the most runs of ticks that a gate's sets keep for an excitation, 1 to 16.
-/// - `table`: for each bus node the resistances, in milliohms, to the 16 contacts; 1 to 16 nodes.
-/// - `sheet`: 16 rows of 512 ticks, contact 0 first, in microamperes; 8,192 words.
-/// - `work`: at least 160 bytes a net. What an accepted call leaves there means nothing.
+/// - `hop_limit`: the most runs of ticks that a gate's sets keep for an excitation, 1 to
+///   [`MOST_HOPS`].
+/// - `table`: for each bus node the resistances, in milliohms, to the [`CONTACTS`]; 1 to
+///   [`MOST_NODES`] nodes.
+/// - `sheet`: a row of [`ROW_TICKS`] for each contact, contact 0 first, in microamperes;
+///   [`SHEET_WORDS`].
+/// - `work`: at least [`work_bytes`]. What an accepted call leaves there means nothing.
 pub fn envelope(
     file: &[u8],
     hop_limit: u64,
     table: &[u16],
-    sheet: &mut [u32],
+    sheet: &mut [Word],
     work: &mut [u8],
 ) -> Result<Currents, Refusal> {
-    let mut answer = [0; 6];
-    // SAFETY: each pointer is good for its length, and slices that are lent to be changed, as
-    // the answer is, overlap no other.
-    unsafe {
-        raw::zimgurav_envelope(
-            file.as_ptr(),
-            file.len(),
-            hop_limit,
-            table.as_ptr(),
-            table.len(),
-            sheet.as_mut_ptr(),
-            sheet.len(),
-            work.as_mut_ptr(),
-            work.len(),
-            &mut answer,
-        );
-    }
-    currents(answer)
+    let [drop, quiet, ..] = values(|answer| {
+        // SAFETY: each pointer is of a slice or the answer and good for its length, and what may be
+        // changed is lent to this call alone.
+        unsafe {
+            raw::zimgurav_envelope(
+                file.as_ptr(),
+                file.len(),
+                hop_limit,
+                table.as_ptr(),
+                table.len(),
+                sheet.as_mut_ptr(),
+                sheet.len(),
+                work.as_mut_ptr(),
+                work.len(),
+                answer,
+            )
+        }
+    })?;
+    Ok(Currents { drop, quiet })
 }
 
-/// Writes the current of each contact at each tick under one pattern into the sheet: checks 1 to
+/// Writes the current of each contact at each tick under one pattern into the sheet: refusals 1 to
 /// 10, 12, 15 and 16.
 ///
 /// - `table`, `sheet`, `work`: as for [`envelope`].
-/// - `pattern`: 64 bytes, one for each input net, 0 l, 1 h, 2 hl, 3 lh; those past the inputs are
-///   not read.
+/// - `pattern`: [`PATTERN_BYTES`], one for each input net, 0 l, 1 h, 2 hl, 3 lh; those past the
+///   inputs are not read.
 pub fn simulate(
     file: &[u8],
     table: &[u16],
-    sheet: &mut [u32],
+    sheet: &mut [Word],
     pattern: &[u8],
     work: &mut [u8],
 ) -> Result<Currents, Refusal> {
-    let mut answer = [0; 6];
-    // SAFETY: each pointer is good for its length, and slices that are lent to be changed, as
-    // the answer is, overlap no other.
-    unsafe {
-        raw::zimgurav_simulate(
-            file.as_ptr(),
-            file.len(),
-            table.as_ptr(),
-            table.len(),
-            sheet.as_mut_ptr(),
-            sheet.len(),
-            pattern.as_ptr(),
-            pattern.len(),
-            work.as_mut_ptr(),
-            work.len(),
-            &mut answer,
-        );
-    }
-    currents(answer)
+    let [drop, quiet, ..] = values(|answer| {
+        // SAFETY: each pointer is of a slice or the answer and good for its length, and what may be
+        // changed is lent to this call alone.
+        unsafe {
+            raw::zimgurav_simulate(
+                file.as_ptr(),
+                file.len(),
+                table.as_ptr(),
+                table.len(),
+                sheet.as_mut_ptr(),
+                sheet.len(),
+                pattern.as_ptr(),
+                pattern.len(),
+                work.as_mut_ptr(),
+                work.len(),
+                answer,
+            )
+        }
+    })?;
+    Ok(Currents { drop, quiet })
 }
 
-/// Searches, best first, for bounds on the greatest drop of any pattern of the block: checks 1 to
+/// Searches, best first, for bounds on the greatest drop of any pattern of the block: refusals 1 to
 /// 15.
 ///
 /// The search starts with the whole frame as its one case and splits the case with the greatest
 /// upper number, until the bounds are as close as the ratio asks or the budget is spent.
 ///
 /// - `hop_limit`, `table`, `work`: as for [`envelope`].
-/// - `ratio`: how many thousandths of the lower bound the upper may be, 1,000 to 10,000.
-/// - `budget`: the most cases to split, 0 to 10,000.
-/// - `sheet`: 8,192 words, as for [`envelope`]; no pattern draws more current than it says.
-/// - `pattern`: 64 bytes, as for [`simulate`]; the pattern that drops the lower bound is written
-///   there. The bytes past the inputs are unchanged.
-/// - `store`: at least 72 bytes for each of 1 + 3 × `budget` cases. Each case has 64 bytes of
-///   input sets and 8 of its upper number, low first. The bytes past the cases are unchanged.
+/// - `ratio`: how many thousandths of the lower bound the upper may be, [`LEAST_RATIO`] to
+///   [`MOST_RATIO`].
+/// - `budget`: the most cases to split, 0 to [`MOST_BUDGET`].
+/// - `sheet`: as for [`envelope`]; no pattern draws more current than it says.
+/// - `pattern`: as for [`simulate`]; the pattern that drops the lower bound is written there. The
+///   bytes past the inputs are unchanged.
+/// - `store`: at least [`store_bytes`]. Each case has [`CASE_BYTES`]: 64 of input sets and 8 of its
+///   upper number, low first. The bytes past the cases are unchanged.
 #[allow(clippy::too_many_arguments)]
 pub fn search(
     file: &[u8],
@@ -178,60 +209,56 @@ pub fn search(
     table: &[u16],
     ratio: u64,
     budget: u64,
-    sheet: &mut [u32],
+    sheet: &mut [Word],
     pattern: &mut [u8],
     work: &mut [u8],
     store: &mut [u8],
 ) -> Result<Found, Refusal> {
-    let mut answer = [0; 6];
-    // SAFETY: each pointer is good for its length, and slices that are lent to be changed, as
-    // the answer is, overlap no other.
-    unsafe {
-        raw::zimgurav_search(
-            file.as_ptr(),
-            file.len(),
-            hop_limit,
-            table.as_ptr(),
-            table.len(),
-            ratio,
-            budget,
-            sheet.as_mut_ptr(),
-            sheet.len(),
-            pattern.as_mut_ptr(),
-            pattern.len(),
-            work.as_mut_ptr(),
-            work.len(),
-            store.as_mut_ptr(),
-            store.len(),
-            &mut answer,
-        );
-    }
-    match answer {
-        [0, outcome, upper, lower, splits, cases] => Ok(Found {
-            outcome: outcome_of(outcome),
-            upper,
-            lower,
-            splits,
-            cases,
-        }),
-        [number, place, ..] => Err(Refusal { number, place }),
-    }
+    let [outcome, upper, lower, splits, cases, ..] = values(|answer| {
+        // SAFETY: each pointer is of a slice or the answer and good for its length, and what may be
+        // changed is lent to this call alone.
+        unsafe {
+            raw::zimgurav_search(
+                file.as_ptr(),
+                file.len(),
+                hop_limit,
+                table.as_ptr(),
+                table.len(),
+                ratio,
+                budget,
+                sheet.as_mut_ptr(),
+                sheet.len(),
+                pattern.as_mut_ptr(),
+                pattern.len(),
+                work.as_mut_ptr(),
+                work.len(),
+                store.as_mut_ptr(),
+                store.len(),
+                answer,
+            )
+        }
+    })?;
+    Ok(Found {
+        outcome: match outcome {
+            0 => Outcome::Exact,
+            1 => Outcome::Within,
+            2 => Outcome::Spent,
+            _ => unreachable!("an outcome is 0, 1 or 2"),
+        },
+        upper,
+        lower,
+        splits,
+        cases,
+    })
 }
 
-/// The outcome with this number in an answer.
-fn outcome_of(number: u64) -> Outcome {
-    match number {
-        0 => Outcome::Exact,
-        1 => Outcome::Within,
-        2 => Outcome::Spent,
-        _ => unreachable!("an outcome is 0, 1 or 2"),
-    }
-}
-
-/// The answer of Envelope or Simulate.
-fn currents(answer: raw::Answer) -> Result<Currents, Refusal> {
+/// Makes a call, and returns what its answer has after the first number if that is 0, else the
+/// refusal.
+fn values(call: impl FnOnce(&mut raw::Answer)) -> Result<[u64; ANSWER_NUMBERS - 1], Refusal> {
+    let mut answer = [0; ANSWER_NUMBERS];
+    call(&mut answer);
     match answer {
-        [0, drop, quiet, ..] => Ok(Currents { drop, quiet }),
+        [0, values @ ..] => Ok(values),
         [number, place, ..] => Err(Refusal { number, place }),
     }
 }

@@ -1,34 +1,43 @@
 //! The functions of the proved static library, as `include/zimgurav.h` declares them.
+//!
+//! # Safety
+//!
+//! The pointers that a call takes are aligned and not null, and each is good for as many elements as
+//! its length says, or for the answer: `*const` for reading, `*mut` for reading and writing. What a
+//! `*mut` points to overlaps nothing else that the call takes. Until the call returns, no other
+//! thread writes what it takes, or reads what it may write.
 
-/// The six numbers of an answer.
+use crate::{Word, ANSWER_NUMBERS};
+
+/// The numbers of an answer.
 ///
-/// The first is 0 where the call was accepted. Else it is the refusal's number, the second is its
-/// place, and the rest are 0.
-pub type Answer = [u64; 6];
+/// The first is 0 where the call was accepted. Else it is the refusal's number, and the second is
+/// its place. The rest are 0.
+pub type Answer = [u64; ANSWER_NUMBERS];
 
-extern "C" {
+unsafe extern "C" {
+    /// The version of the library.
+    pub safe fn zimgurav_version() -> u64;
+
     /// Reads a block file. Accepted: 0, nets, inputs, then 0.
     ///
     /// # Safety
     ///
-    /// `file` is not null and is good for reading `file_length` bytes, `answer` is aligned
-    /// and good for writing, and the two do not overlap.
+    /// As the [module](self) says.
     pub fn zimgurav_read(file: *const u8, file_length: usize, answer: *mut Answer);
 
     /// Writes the envelope of a block into the sheet. Accepted: 0, drop, quiet tick, then 0.
     ///
     /// # Safety
     ///
-    /// `file` and `table` are not null and are good for reading as many elements as their lengths
-    /// say, `sheet` and `work` likewise for reading and writing, `answer` is good for writing, all
-    /// are aligned, and none that is written overlaps another.
+    /// As the [module](self) says.
     pub fn zimgurav_envelope(
         file: *const u8,
         file_length: usize,
         hop_limit: u64,
         table: *const u16,
         table_length: usize,
-        sheet: *mut u32,
+        sheet: *mut Word,
         sheet_length: usize,
         work: *mut u8,
         work_length: usize,
@@ -40,15 +49,13 @@ extern "C" {
     ///
     /// # Safety
     ///
-    /// `file`, `table` and `pattern` are not null and are good for reading as many elements as
-    /// their lengths say, `sheet` and `work` likewise for reading and writing, `answer` is good
-    /// for writing, all are aligned, and none that is written overlaps another.
+    /// As the [module](self) says.
     pub fn zimgurav_simulate(
         file: *const u8,
         file_length: usize,
         table: *const u16,
         table_length: usize,
-        sheet: *mut u32,
+        sheet: *mut Word,
         sheet_length: usize,
         pattern: *const u8,
         pattern_length: usize,
@@ -58,13 +65,11 @@ extern "C" {
     );
 
     /// Searches for bounds on the greatest drop. Accepted: 0, outcome (0 exact, 1 within, 2
-    /// spent), upper bound, lower bound, splits, cases.
+    /// spent), upper bound, lower bound, splits, cases, then 0.
     ///
     /// # Safety
     ///
-    /// `file` and `table` are not null and are good for reading as many elements as their lengths
-    /// say, `sheet`, `pattern`, `work` and `store` likewise for reading and writing, `answer` is
-    /// good for writing, all are aligned, and none that is written overlaps another.
+    /// As the [module](self) says.
     pub fn zimgurav_search(
         file: *const u8,
         file_length: usize,
@@ -73,7 +78,7 @@ extern "C" {
         table_length: usize,
         ratio: u64,
         budget: u64,
-        sheet: *mut u32,
+        sheet: *mut Word,
         sheet_length: usize,
         pattern: *mut u8,
         pattern_length: usize,

@@ -2,7 +2,7 @@
 
 use crate::implementation::Implementation;
 use crate::sample::Arguments;
-use zimgurav::{Found, Outcome};
+use zimgurav::{Found, Outcome, Word, CASE_BYTES, PATTERN_BYTES, RECORD_BYTES};
 
 /// Says what is wrong, in words, where something is.
 fn expect(right: bool, wrong: impl FnOnce() -> String) -> Result<(), String> {
@@ -57,10 +57,10 @@ impl Searched {
 
     /// The cases in the store: each one's sets and upper number.
     pub fn cases(&self) -> impl Iterator<Item = (&[u8], u64)> {
-        let records = self.lent.store.as_chunks::<72>().0;
+        let records = self.lent.store.as_chunks::<CASE_BYTES>().0;
         let records = &records[..self.found.cases as usize];
         records.iter().map(|record| {
-            let (sets, upper) = record.split_at(64);
+            let (sets, upper) = record.split_at(PATTERN_BYTES);
             (sets, u64::from_le_bytes(upper.try_into().expect("8 bytes")))
         })
     }
@@ -87,7 +87,7 @@ impl Searched {
         let mut lent = self.without_the_store();
         let mut capped = 0;
         for (sets, upper) in self.cases() {
-            let records = lent.file.chunks_exact_mut(20);
+            let records = lent.file.chunks_exact_mut(RECORD_BYTES);
             for ((record, byte), &set) in records.zip(&mut lent.pattern).zip(sets) {
                 if set != 0 {
                     record[18] = set;
@@ -113,7 +113,7 @@ impl Searched {
 
     /// The pattern draws at most the sheet in each word and drops at most U; it is in exactly one
     /// case, and drops at most its upper number.
-    pub fn is_above(&self, pattern: &[u8], drop: u64, sheet: &[u32]) -> Result<(), String> {
+    pub fn is_above(&self, pattern: &[u8], drop: u64, sheet: &[Word]) -> Result<(), String> {
         let upper = self.found.upper;
         expect(drop <= upper, || format!("a drop {drop} above U {upper}"))?;
         let mut words = sheet.iter().zip(&self.lent.sheet);

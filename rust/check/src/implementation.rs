@@ -2,16 +2,16 @@
 
 use crate::sample::Arguments;
 use crate::second;
-use zimgurav::{Counts, Currents, Found, Refusal};
+use zimgurav::{Counts, Currents, Found, Refusal, Word};
 
 /// What is called Read: the file.
 pub type Read = fn(&[u8]) -> Result<Counts, Refusal>;
 
 /// What is called Envelope: file, hop limit, table, sheet and work buffer.
-pub type Envelope = fn(&[u8], u64, &[u16], &mut [u32], &mut [u8]) -> Result<Currents, Refusal>;
+pub type Envelope = fn(&[u8], u64, &[u16], &mut [Word], &mut [u8]) -> Result<Currents, Refusal>;
 
 /// What is called Simulate: file, table, sheet, pattern and work buffer.
-pub type Simulate = fn(&[u8], &[u16], &mut [u32], &[u8], &mut [u8]) -> Result<Currents, Refusal>;
+pub type Simulate = fn(&[u8], &[u16], &mut [Word], &[u8], &mut [u8]) -> Result<Currents, Refusal>;
 
 /// What is called Search: file, hop limit, table, ratio, budget, sheet, pattern, work buffer and
 /// case store.
@@ -21,7 +21,7 @@ pub type Search = fn(
     &[u16],
     u64,
     u64,
-    &mut [u32],
+    &mut [Word],
     &mut [u8],
     &mut [u8],
     &mut [u8],

@@ -5,8 +5,12 @@ use std::fmt::Debug;
 
 use check::implementation::{Implementation, Operation, LIBRARY, SECOND};
 use check::kind::{AND, BUF, NOT};
-use check::sample::{drawing, gate, input, store_length, Arguments, Record};
-use zimgurav::{raw, Currents, Found, Refusal};
+use check::sample::{drawing, gate, input, Arguments, Record};
+use zimgurav::{
+    raw, store_bytes, work_bytes, Currents, Found, Refusal, ANSWER_NUMBERS, CASE_BYTES, CONTACTS,
+    LEAST_RATIO, MOST_BUDGET, MOST_HOPS, MOST_NODES, MOST_RATIO, PATTERN_BYTES, RECORD_BYTES,
+    ROW_TICKS, SHEET_WORDS,
+};
 
 const ENVELOPE: Operation<Currents> = Implementation::envelope;
 const SIMULATE: Operation<Currents> = Implementation::simulate;
@@ -77,7 +81,7 @@ mod edges {
 
     #[test]
     fn hop_limit() {
-        for hop_limit in 1..=16 {
+        for hop_limit in 1..=MOST_HOPS {
             let arguments = Arguments {
                 hop_limit,
                 ..arguments()
@@ -85,7 +89,7 @@ mod edges {
             accepted(ENVELOPE, &arguments);
             accepted(SEARCH, &arguments);
         }
-        for hop_limit in wide(10).chain([0, 17, 18, 256, 266, u64::MAX]) {
+        for hop_limit in wide(10).chain([0, MOST_HOPS + 1, 18, 256, 266, u64::MAX]) {
             let arguments = Arguments {
                 hop_limit,
                 ..arguments()
@@ -104,7 +108,8 @@ mod edges {
                 table: vec![3; length],
                 ..arguments()
             };
-            if length % 16 == 0 && (16..=256).contains(&length) {
+            let nodes = length / CONTACTS;
+            if length % CONTACTS == 0 && (1..=MOST_NODES).contains(&nodes) {
                 accepted(ENVELOPE, &arguments);
                 accepted(SIMULATE, &arguments);
                 accepted(SEARCH, &arguments);
@@ -118,14 +123,15 @@ mod edges {
 
     #[test]
     fn ratio() {
-        for ratio in [1_000, 1_001, 1_999, 2_000, 9_999, 10_000] {
+        for ratio in [LEAST_RATIO, 1_001, 1_999, 2_000, 9_999, MOST_RATIO] {
             let arguments = Arguments {
                 ratio,
                 ..arguments()
             };
             accepted(SEARCH, &arguments);
         }
-        for ratio in wide(1_000).chain([0, 1, 999, 10_001, 11_000, u64::MAX]) {
+        let edges = [0, 1, LEAST_RATIO - 1, MOST_RATIO + 1, 11_000, u64::MAX];
+        for ratio in wide(LEAST_RATIO).chain(edges) {
             let arguments = Arguments {
                 ratio,
                 ..arguments()
@@ -139,13 +145,14 @@ mod edges {
 
     #[test]
     fn budget() {
-        for budget in [0, 1, 2, 200, 9_999, 10_000] {
+        for budget in [0, 1, 2, 200, MOST_BUDGET - 1, MOST_BUDGET] {
             accepted(SEARCH, &arguments().with_budget(budget));
         }
-        for budget in wide(200).chain([10_001, 10_002, 20_000, u64::MAX / 3, u64::MAX]) {
+        let edges = [MOST_BUDGET + 1, 10_002, 20_000, u64::MAX / 3, u64::MAX];
+        for budget in wide(200).chain(edges) {
             let arguments = Arguments {
                 budget,
-                ..arguments().with_budget(10_000)
+                ..arguments().with_budget(MOST_BUDGET)
             };
             refused(SEARCH, &arguments, 14, 0);
             // The others have no budget.
@@ -156,7 +163,17 @@ mod edges {
 
     #[test]
     fn sheet() {
-        for length in [0, 1, 512, 8191, 8193, 8192 + 512, 16_384, 65_536 + 8192] {
+        let (row, all) = (ROW_TICKS, SHEET_WORDS);
+        for length in [
+            0,
+            1,
+            row,
+            all - 1,
+            all + 1,
+            all + row,
+            2 * all,
+            65_536 + all,
+        ] {
             let arguments = Arguments {
                 sheet: vec![7; length],
                 ..arguments()
@@ -169,7 +186,8 @@ mod edges {
 
     #[test]
     fn pattern() {
-        for length in [0, 1, 2, 63, 65, 128, 256 + 64, 65_536 + 64] {
+        let all = PATTERN_BYTES;
+        for length in [0, 1, 2, all - 1, all + 1, 2 * all, 256 + all, 65_536 + all] {
             let arguments = Arguments {
                 pattern: vec![0; length],
                 ..arguments()
@@ -186,8 +204,9 @@ mod edges {
         for nets in [1, 2, 3, 410, 411, 1023, 1024] {
             let mut block = vec![gate(BUF, &[0]); nets];
             block[0] = input(15);
-            let least = 160 * nets;
-            for length in [0, 1, 159, least / 2, least - 160, least - 1] {
+            let least = work_bytes(nets as u64);
+            let less = work_bytes(nets as u64 - 1);
+            for length in [0, 1, 159, least / 2, less, least - 1] {
                 let arguments = Arguments {
                     work: vec![7; length],
                     ..Arguments::new(&block)
@@ -210,9 +229,9 @@ mod edges {
 
     #[test]
     fn store() {
-        for budget in [0, 1, 2, 3, 200, 303, 304, 9_999, 10_000] {
-            let least = store_length(budget);
-            for length in [0, 1, 71, least / 2, least - 72, least - 1] {
+        for budget in [0, 1, 2, 3, 200, 303, 304, MOST_BUDGET - 1, MOST_BUDGET] {
+            let least = store_bytes(budget);
+            for length in [0, 1, 71, least / 2, least - CASE_BYTES, least - 1] {
                 let arguments = Arguments {
                     budget,
                     store: vec![7; length],
@@ -223,7 +242,7 @@ mod edges {
                 accepted(ENVELOPE, &arguments);
                 accepted(SIMULATE, &arguments);
             }
-            for length in [least, least + 1, least + 71, least + 72, 2 * least] {
+            for length in [least, least + 1, least + 71, least + CASE_BYTES, 2 * least] {
                 let arguments = Arguments {
                     budget,
                     store: vec![7; length],
@@ -285,7 +304,7 @@ mod order {
     type Fault = (u64, u64, fn(&mut Arguments));
 
     fn byte(arguments: &mut Arguments, net: usize, byte: usize, value: u8) {
-        arguments.file[20 * net + byte] = value;
+        arguments.file[RECORD_BYTES * net + byte] = value;
     }
 
     /// Faults of the file, for each of checks 1 to 9.
@@ -305,13 +324,17 @@ mod order {
 
     const HOP_LIMIT: Fault = (11, 0, |arguments| arguments.hop_limit = 0);
     const TABLE: Fault = (12, 0, |arguments| arguments.table.truncate(15));
-    const RATIO: Fault = (13, 0, |arguments| arguments.ratio = 999);
-    const BUDGET: Fault = (14, 0, |arguments| arguments.budget = 10_001);
-    const SHEET: Fault = (15, 1, |arguments| arguments.sheet.truncate(8191));
-    const PATTERN: Fault = (15, 2, |arguments| arguments.pattern.truncate(63));
-    const WORK: Fault = (15, 3, |arguments| arguments.work.truncate(639));
+    const RATIO: Fault = (13, 0, |arguments| arguments.ratio = LEAST_RATIO - 1);
+    const BUDGET: Fault = (14, 0, |arguments| arguments.budget = MOST_BUDGET + 1);
+    const SHEET: Fault = (15, 1, |arguments| arguments.sheet.truncate(SHEET_WORDS - 1));
+    const PATTERN: Fault = (15, 2, |arguments| {
+        arguments.pattern.truncate(PATTERN_BYTES - 1)
+    });
+    const WORK: Fault = (15, 3, |arguments| {
+        arguments.work.truncate(work_bytes(4) - 1)
+    });
     const STORE: Fault = (15, 4, |arguments| {
-        arguments.store.truncate(store_length(200) - 1)
+        arguments.store.truncate(store_bytes(200) - 1)
     });
     const FIRST_BYTE: Fault = (16, 0, |arguments| arguments.pattern[0] = 4);
     const SECOND_BYTE: Fault = (16, 1, |arguments| arguments.pattern[1] = 2);
@@ -423,12 +446,12 @@ mod order {
     }
 }
 
-/// All six numbers, over what stood there before.
+/// All eight numbers, over what stood there before.
 mod whole_answer {
     use super::*;
 
     fn envelope(arguments: &mut Arguments) -> raw::Answer {
-        let mut answer = [u64::MAX; 6];
+        let mut answer = [u64::MAX; ANSWER_NUMBERS];
         // SAFETY: each pointer is good for its length, and no two buffers overlap.
         unsafe {
             raw::zimgurav_envelope(
@@ -448,7 +471,7 @@ mod whole_answer {
     }
 
     fn simulate(arguments: &mut Arguments) -> raw::Answer {
-        let mut answer = [u64::MAX; 6];
+        let mut answer = [u64::MAX; ANSWER_NUMBERS];
         // SAFETY: each pointer is good for its length, and no two buffers overlap.
         unsafe {
             raw::zimgurav_simulate(
@@ -469,7 +492,7 @@ mod whole_answer {
     }
 
     fn search(arguments: &mut Arguments) -> raw::Answer {
-        let mut answer = [u64::MAX; 6];
+        let mut answer = [u64::MAX; ANSWER_NUMBERS];
         // SAFETY: each pointer is good for its length, and no two buffers overlap.
         unsafe {
             raw::zimgurav_search(
@@ -498,12 +521,12 @@ mod whole_answer {
     /// edge of net 1 and from tick 1 for one of net 2.
     #[test]
     fn accepted() {
-        assert_eq!(envelope(&mut arguments()), [0, 514, 3, 0, 0, 0]);
-        assert_eq!(search(&mut arguments()), [0, 0, 514, 514, 0, 1]);
+        assert_eq!(envelope(&mut arguments()), [0, 514, 3, 0, 0, 0, 0, 0]);
+        assert_eq!(search(&mut arguments()), [0, 0, 514, 514, 0, 1, 0, 0]);
         let mut lh_and_h = arguments();
         lh_and_h.pattern[..2].copy_from_slice(&[3, 1]);
-        assert_eq!(simulate(&mut lh_and_h), [0, 257, 3, 0, 0, 0]);
-        assert_eq!(simulate(&mut arguments()), [0, 0, 3, 0, 0, 0]);
+        assert_eq!(simulate(&mut lh_and_h), [0, 257, 3, 0, 0, 0, 0, 0]);
+        assert_eq!(simulate(&mut arguments()), [0, 0, 3, 0, 0, 0, 0, 0]);
     }
 
     /// Block S: each outcome, with its number.
@@ -512,47 +535,52 @@ mod whole_answer {
         let rising = |kind| drawing(gate(kind, &[0]), [0, 1, 1, 1], [10, 0]);
         let block = [input(15), rising(BUF), rising(NOT)];
         let mut exact = Arguments::new(&block);
-        assert_eq!(search(&mut exact), [0, 0, 10, 10, 1, 4]);
+        assert_eq!(search(&mut exact), [0, 0, 10, 10, 1, 4, 0, 0]);
         let mut within = Arguments::new(&block).with_budget(0);
         within.ratio = 2_000;
-        assert_eq!(search(&mut within), [0, 1, 20, 10, 0, 1]);
+        assert_eq!(search(&mut within), [0, 1, 20, 10, 0, 1, 0, 0]);
         let mut spent = Arguments::new(&block).with_budget(0);
         spent.ratio = 1_999;
-        assert_eq!(search(&mut spent), [0, 2, 20, 10, 0, 1]);
+        assert_eq!(search(&mut spent), [0, 2, 20, 10, 0, 1, 0, 0]);
+    }
+
+    /// The answer of a refused call.
+    fn refusal(number: u64, place: u64) -> raw::Answer {
+        [number, place, 0, 0, 0, 0, 0, 0]
     }
 
     #[test]
     fn refused() {
         let mut hops = arguments();
         hops.hop_limit = 17;
-        assert_eq!(envelope(&mut hops), [11, 0, 0, 0, 0, 0]);
-        assert_eq!(search(&mut hops), [11, 0, 0, 0, 0, 0]);
+        assert_eq!(envelope(&mut hops), refusal(11, 0));
+        assert_eq!(search(&mut hops), refusal(11, 0));
         let mut table = arguments();
         table.table.clear();
-        assert_eq!(envelope(&mut table), [12, 0, 0, 0, 0, 0]);
-        assert_eq!(simulate(&mut table), [12, 0, 0, 0, 0, 0]);
-        assert_eq!(search(&mut table), [12, 0, 0, 0, 0, 0]);
+        assert_eq!(envelope(&mut table), refusal(12, 0));
+        assert_eq!(simulate(&mut table), refusal(12, 0));
+        assert_eq!(search(&mut table), refusal(12, 0));
         let mut ratio = arguments();
         ratio.ratio = 0;
-        assert_eq!(search(&mut ratio), [13, 0, 0, 0, 0, 0]);
+        assert_eq!(search(&mut ratio), refusal(13, 0));
         let mut budget = arguments();
-        budget.budget = 10_001;
-        assert_eq!(search(&mut budget), [14, 0, 0, 0, 0, 0]);
+        budget.budget = MOST_BUDGET + 1;
+        assert_eq!(search(&mut budget), refusal(14, 0));
         let mut work = arguments();
         work.work.clear();
-        assert_eq!(envelope(&mut work), [15, 3, 0, 0, 0, 0]);
-        assert_eq!(simulate(&mut work), [15, 3, 0, 0, 0, 0]);
-        assert_eq!(search(&mut work), [15, 3, 0, 0, 0, 0]);
+        assert_eq!(envelope(&mut work), refusal(15, 3));
+        assert_eq!(simulate(&mut work), refusal(15, 3));
+        assert_eq!(search(&mut work), refusal(15, 3));
         let mut store = arguments();
         store.store.clear();
-        assert_eq!(search(&mut store), [15, 4, 0, 0, 0, 0]);
+        assert_eq!(search(&mut store), refusal(15, 4));
         let mut pattern = arguments();
         pattern.pattern[1] = 2;
-        assert_eq!(simulate(&mut pattern), [16, 1, 0, 0, 0, 0]);
+        assert_eq!(simulate(&mut pattern), refusal(16, 1));
         let mut file = arguments();
         file.file[20 * 3 + 2] = 0;
-        assert_eq!(envelope(&mut file), [9, 3, 0, 0, 0, 0]);
-        assert_eq!(simulate(&mut file), [9, 3, 0, 0, 0, 0]);
-        assert_eq!(search(&mut file), [9, 3, 0, 0, 0, 0]);
+        assert_eq!(envelope(&mut file), refusal(9, 3));
+        assert_eq!(simulate(&mut file), refusal(9, 3));
+        assert_eq!(search(&mut file), refusal(9, 3));
     }
 }

@@ -8,7 +8,7 @@ use check::pattern::{H, HL, L, LH};
 use check::sample::{
     self, drawing, gate, input, patterns, silent, Arguments, Random, Record, Shape,
 };
-use zimgurav::{Currents, Refusal};
+use zimgurav::{work_bytes, Currents, Refusal, Word, RECORD_BYTES, ROW_TICKS, SHEET_WORDS};
 
 /// Checks the drop, the quiet tick and every word of the sheet. A row is written from tick 0 and is
 /// 0 after what is written; the contacts that have no row draw nothing.
@@ -18,11 +18,11 @@ fn gives(
     call: Operation<Currents>,
     drop: u64,
     quiet: u64,
-    rows: &[(usize, &[u32])],
+    rows: &[(usize, &[Word])],
 ) {
-    let mut sheet = vec![0; 8192];
+    let mut sheet = vec![0; SHEET_WORDS];
     for &(contact, row) in rows {
-        let start = 512 * contact;
+        let start = ROW_TICKS * contact;
         sheet[start..start + row.len()].copy_from_slice(row);
     }
     for implementation in [LIBRARY, SECOND] {
@@ -30,9 +30,9 @@ fn gives(
         let mut lent = arguments.clone();
         let answer = call(&implementation, &mut lent);
         assert_eq!(answer, Ok(Currents { drop, quiet }), "{name}");
-        let different = (0..8192).find(|&word| lent.sheet[word] != sheet[word]);
+        let different = (0..SHEET_WORDS).find(|&word| lent.sheet[word] != sheet[word]);
         if let Some(word) = different {
-            let (contact, tick) = (word / 512, word % 512);
+            let (contact, tick) = (word / ROW_TICKS, word % ROW_TICKS);
             let (is, not) = (lent.sheet[word], sheet[word]);
             panic!("{name}: {is} instead of {not} at contact {contact}, tick {tick}");
         }
@@ -40,12 +40,12 @@ fn gives(
 }
 
 #[track_caller]
-fn envelope_gives(arguments: &Arguments, drop: u64, quiet: u64, rows: &[(usize, &[u32])]) {
+fn envelope_gives(arguments: &Arguments, drop: u64, quiet: u64, rows: &[(usize, &[Word])]) {
     gives(arguments, Implementation::envelope, drop, quiet, rows);
 }
 
 #[track_caller]
-fn simulate_gives(arguments: &Arguments, drop: u64, quiet: u64, rows: &[(usize, &[u32])]) {
+fn simulate_gives(arguments: &Arguments, drop: u64, quiet: u64, rows: &[(usize, &[Word])]) {
     gives(arguments, Implementation::simulate, drop, quiet, rows);
 }
 
@@ -69,7 +69,7 @@ mod block_f {
 
     #[test]
     fn envelope() {
-        let rows: [(usize, &[u32]); 2] = [(0, &[0, 20, 10, 0]), (1, &[0, 15, 31, 31, 15, 0])];
+        let rows: [(usize, &[Word]); 2] = [(0, &[0, 20, 10, 0]), (1, &[0, 15, 31, 31, 15, 0])];
         envelope_gives(&arguments([L, L]), 55, 5, &rows);
         for hop_limit in 1..=16 {
             let arguments = Arguments {
@@ -82,7 +82,7 @@ mod block_f {
 
     #[test]
     fn both_lh() {
-        let rows: [(usize, &[u32]); 2] = [(0, &[0, 20, 10, 0]), (1, &[0, 15, 31, 30, 15])];
+        let rows: [(usize, &[Word]); 2] = [(0, &[0, 20, 10, 0]), (1, &[0, 15, 31, 30, 15])];
         simulate_gives(&arguments([LH, LH]), 55, 5, &rows);
     }
 
@@ -95,7 +95,7 @@ mod block_f {
     /// Net 2 rises at tick 1, and net 3 falls at tick 3, as net 1 is high.
     #[test]
     fn hl_and_h() {
-        let rows: [(usize, &[u32]); 2] = [(0, &[0, 10, 5]), (1, &[0, 0, 15, 31, 15])];
+        let rows: [(usize, &[Word]); 2] = [(0, &[0, 10, 5]), (1, &[0, 0, 15, 31, 15])];
         simulate_gives(&arguments([HL, H]), 31, 5, &rows);
     }
 
@@ -135,7 +135,7 @@ mod pulses {
 
     /// One buffer at contact 0 that rises, seen by both operations.
     #[track_caller]
-    fn pulse(slopes: [u8; 2], peak: u16, row: &[u32]) {
+    fn pulse(slopes: [u8; 2], peak: u16, row: &[Word]) {
         let [rise, fall] = slopes;
         let buffer = drawing(gate(BUF, &[0]), [0, 1, rise, fall], [peak, 0]);
         let arguments = with_pattern(&[input(8), buffer], &[LH]);
@@ -164,7 +164,7 @@ mod pulses {
     fn of_the_greatest_peak_and_slopes() {
         let rising = (0..=127).map(|k| 65_535 * k / 127);
         let falling = (128..=254).map(|k| 65_535 * (254 - k) / 127);
-        let row: Vec<u32> = rising.chain(falling).collect();
+        let row: Vec<Word> = rising.chain(falling).collect();
         pulse([127, 127], 65_535, &row);
     }
 
@@ -298,7 +298,7 @@ mod runs {
             hop_limit: 2,
             ..Arguments::new(&block)
         };
-        let rows: [(usize, &[u32]); 2] = [
+        let rows: [(usize, &[Word]); 2] = [
             (0, &[0, 0, 10, 10, 10, 0, 0, 0, 0, 10]),
             (7, &[0, 0, 0, 5, 5, 5]),
         ];
@@ -333,7 +333,7 @@ mod gates {
     /// A gate of this kind over inputs with these excitations: `edge` is what its transition
     /// draws, 10 for lh and 20 for hl, or 0 if it has none.
     #[track_caller]
-    fn draws(kind: u8, excitations: &[u8], edge: u32) {
+    fn draws(kind: u8, excitations: &[u8], edge: Word) {
         let pins: Vec<u16> = (0..).take(excitations.len()).collect();
         let mut block: Vec<Record> = excitations.iter().map(|&byte| input(1 << byte)).collect();
         block.push(drawing(gate(kind, &pins), [0, 1, 1, 1], [10, 20]));
@@ -409,7 +409,7 @@ mod drops {
             drawing(gate(BUF, &[0]), [0, 1, 1, 1], [10, 0]),
             drawing(gate(BUF, &[1]), [1, 1, 1, 1], [10, 0]),
         ];
-        let rows: [(usize, &[u32]); 2] = [(0, &[0, 10]), (1, &[0, 0, 10])];
+        let rows: [(usize, &[Word]); 2] = [(0, &[0, 10]), (1, &[0, 0, 10])];
         let arguments = with_pattern(&block, &[LH]);
         simulate_gives(&arguments, 10, 3, &rows);
         envelope_gives(&arguments, 10, 3, &rows);
@@ -424,7 +424,7 @@ mod drops {
                 _ => drawing(gate(BUF, &[0]), [net - 1, 1, 1, 1], [1, 0]),
             })
             .collect();
-        let rows: Vec<(usize, &[u32])> = (0..16).map(|contact| (contact, &[0, 1][..])).collect();
+        let rows: Vec<(usize, &[Word])> = (0..16).map(|contact| (contact, &[0, 1][..])).collect();
         for nodes in 1..=16 {
             for node in 0..nodes {
                 for contact in 0..16 {
@@ -455,11 +455,11 @@ mod drops {
             }
             let mut arguments = with_pattern(&block, &[LH]);
             arguments.table = vec![65_535; 256];
-            let gates: Vec<u32> = (0..16)
-                .map(|contact| (1..1024).filter(|net| net % contacts == contact).count() as u32)
+            let gates: Vec<Word> = (0..16)
+                .map(|contact| (1..1024).filter(|net| net % contacts == contact).count() as Word)
                 .collect();
-            let row: Vec<[u32; 2]> = gates.iter().map(|gates| [0, 65_535 * gates]).collect();
-            let rows: Vec<(usize, &[u32])> = (0..).zip(row.iter().map(|row| &row[..])).collect();
+            let row: Vec<[Word; 2]> = gates.iter().map(|gates| [0, 65_535 * gates]).collect();
+            let rows: Vec<(usize, &[Word])> = (0..).zip(row.iter().map(|row| &row[..])).collect();
             let drop = 65_535 * 65_535 * 1023;
             simulate_gives(&arguments, drop, 2, &rows);
             envelope_gives(&arguments, drop, 2, &rows);
@@ -503,17 +503,17 @@ mod buffers {
     fn to_write_may_hold_anything() {
         let mut random = Random::new(3);
         for arguments in samples(3, 100) {
-            let nets = arguments.file.len() / 20;
+            let least = work_bytes((arguments.file.len() / RECORD_BYTES) as u64);
             for call in OPERATIONS {
                 let mut clean = arguments.clone();
                 clean.sheet.fill(0);
-                clean.work = vec![0; 160 * nets];
+                clean.work = vec![0; least];
                 let answer = call(&LIBRARY, &mut clean);
                 assert!(answer.is_ok());
                 for more in [0, 1, 160, 1 << 16] {
                     let mut dirty = arguments.clone();
-                    dirty.sheet.fill_with(|| random.bits() as u32);
-                    dirty.work.resize(160 * nets + more, 0);
+                    dirty.sheet.fill_with(|| random.bits() as Word);
+                    dirty.work.resize(least + more, 0);
                     dirty.work.fill_with(|| random.byte(0, 255));
                     assert_eq!(call(&LIBRARY, &mut dirty), answer);
                     assert!(dirty.sheet == clean.sheet);
@@ -579,7 +579,7 @@ mod soundness {
             let mut arguments = Arguments::random(&mut random, &block);
             for call in [Implementation::envelope, Implementation::simulate] {
                 let currents = call(&LIBRARY, &mut arguments).expect("accepted");
-                for row in arguments.sheet.chunks_exact(512) {
+                for row in arguments.sheet.chunks_exact(ROW_TICKS) {
                     let after = &row[currents.quiet as usize + 1..];
                     assert!(after.iter().all(|&current| current == 0));
                 }

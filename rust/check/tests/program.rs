@@ -63,7 +63,7 @@ fn expected(file: &[u8]) -> String {
         ..Arguments::new(&[])
     };
     match SECOND.search(&mut arguments) {
-        Err(refusal) => format!("{refusal}\n"),
+        Err(refusal) => format!("refused {} {}\n", refusal.number, refusal.place),
         Ok(found) => {
             let counts = second::read(file).expect("accepted");
             let pattern = &arguments.pattern[..counts.inputs as usize];

@@ -4,7 +4,7 @@
 use check::kind::{AND, BUF, INPUT, NAND, NOT, XNOR};
 use check::sample::{self, gate, input, Record};
 use check::second;
-use zimgurav::{raw, read, Counts, Refusal};
+use zimgurav::{raw, read, Counts, Refusal, ANSWER_NUMBERS};
 
 #[track_caller]
 fn answers(file: &[u8], expected: Result<Counts, Refusal>) {
@@ -558,20 +558,23 @@ mod examples {
     }
 }
 
-/// All six numbers, over what stood there before.
+/// All eight numbers, over what stood there before.
 #[test]
 fn whole_answer() {
     let answer = |file: &[u8]| {
-        let mut answer = [u64::MAX; 6];
+        let mut answer = [u64::MAX; ANSWER_NUMBERS];
         // SAFETY: both pointers are good for their lengths, and the answer is a buffer of its own.
         unsafe { raw::zimgurav_read(file.as_ptr(), file.len(), &mut answer) };
         answer
     };
-    assert_eq!(answer(&fan(7).concat()), [0, 7, 1, 0, 0, 0]);
-    assert_eq!(answer(&[input(15); 64].concat()), [0, 64, 64, 0, 0, 0]);
-    assert_eq!(answer(&[]), [3, 0, 0, 0, 0, 0]);
-    assert_eq!(answer(&[1]), [1, 0, 0, 0, 0, 0]);
-    assert_eq!(answer(&fan(1025).concat()), [2, 0, 0, 0, 0, 0]);
-    assert_eq!(answer(&[input(15); 65].concat()), [5, 64, 0, 0, 0, 0]);
-    assert_eq!(answer(&chain(&[63; 5]).concat()), [10, 5, 0, 0, 0, 0]);
+    assert_eq!(answer(&fan(7).concat()), [0, 7, 1, 0, 0, 0, 0, 0]);
+    assert_eq!(
+        answer(&[input(15); 64].concat()),
+        [0, 64, 64, 0, 0, 0, 0, 0]
+    );
+    assert_eq!(answer(&[]), [3, 0, 0, 0, 0, 0, 0, 0]);
+    assert_eq!(answer(&[1]), [1, 0, 0, 0, 0, 0, 0, 0]);
+    assert_eq!(answer(&fan(1025).concat()), [2, 0, 0, 0, 0, 0, 0, 0]);
+    assert_eq!(answer(&[input(15); 65].concat()), [5, 64, 0, 0, 0, 0, 0, 0]);
+    assert_eq!(answer(&chain(&[63; 5]).concat()), [10, 5, 0, 0, 0, 0, 0, 0]);
 }

@@ -2,9 +2,10 @@
 
 use super::{Random, Record};
 use crate::kind::INPUT;
+use zimgurav::{store_bytes, work_bytes, Word, CONTACTS, MOST_NODES, PATTERN_BYTES, SHEET_WORDS};
 
 /// What a word of the sheet holds before a call.
-const UNUSED_WORD: u32 = 0xeeee_eeee;
+const UNUSED_WORD: Word = 0xeeee_eeee;
 
 /// What a byte of the work buffer and of the case store holds before a call.
 const UNUSED_BYTE: u8 = 0xee;
@@ -17,7 +18,7 @@ pub struct Arguments {
     pub table: Vec<u16>,
     pub ratio: u64,
     pub budget: u64,
-    pub sheet: Vec<u32>,
+    pub sheet: Vec<Word>,
     pub pattern: Vec<u8>,
     pub work: Vec<u8>,
     pub store: Vec<u8>,
@@ -28,27 +29,27 @@ impl Arguments {
     /// budget 200, at each input the first allowed of l, h, hl, lh, and buffers as short as they
     /// may be.
     pub fn new(block: &[Record]) -> Self {
-        let mut pattern = vec![0; 64];
+        let mut pattern = vec![0; PATTERN_BYTES];
         for (byte, input) in pattern.iter_mut().zip(inputs(block)) {
             *byte = allowed(input)[0];
         }
         Arguments {
             file: block.concat(),
             hop_limit: 10,
-            table: vec![1; 16],
+            table: vec![1; CONTACTS],
             ratio: 1_000,
             budget: 200,
-            sheet: vec![UNUSED_WORD; 8192],
+            sheet: vec![UNUSED_WORD; SHEET_WORDS],
             pattern,
-            work: vec![UNUSED_BYTE; 160 * block.len()],
-            store: vec![UNUSED_BYTE; store_length(200)],
+            work: vec![UNUSED_BYTE; work_bytes(block.len() as u64)],
+            store: vec![UNUSED_BYTE; store_bytes(200)],
         }
     }
 
     /// The same with this budget, and a case store as short as it may be.
     pub fn with_budget(mut self, budget: u64) -> Self {
         self.budget = budget;
-        self.store = vec![UNUSED_BYTE; store_length(budget)];
+        self.store = vec![UNUSED_BYTE; store_bytes(budget)];
         self
     }
 
@@ -64,8 +65,8 @@ impl Arguments {
         let mut arguments = Arguments::new(block);
         let any = 1 + random.below(16);
         arguments.hop_limit = random.pick(&[1, 2, 3, any]) as u64;
-        let nodes = 1 + random.below(16);
-        arguments.table = (0..16 * nodes).map(|_| resistance(random)).collect();
+        let nodes = 1 + random.below(MOST_NODES);
+        arguments.table = (0..CONTACTS * nodes).map(|_| resistance(random)).collect();
         arguments.pattern.fill_with(|| random.byte(0, 255));
         for (byte, input) in arguments.pattern.iter_mut().zip(inputs(block)) {
             *byte = random.pick(&allowed(input));
@@ -79,14 +80,9 @@ impl Arguments {
             buffer.resize(length, 0);
             buffer.fill_with(|| random.byte(0, 255));
         }
-        arguments.sheet.fill_with(|| random.bits() as u32);
+        arguments.sheet.fill_with(|| random.bits() as Word);
         arguments
     }
-}
-
-/// How many bytes the case store needs for this budget.
-pub fn store_length(budget: u64) -> usize {
-    72 * (1 + 3 * budget as usize)
 }
 
 /// The inputs, which come first.

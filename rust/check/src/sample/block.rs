@@ -2,13 +2,14 @@
 
 use super::Random;
 use crate::kind::{AND, BUF, INPUT, NAND, NOT, XOR};
+use zimgurav::RECORD_BYTES;
 
-/// The 20 bytes of a net.
-pub type Record = [u8; 20];
+/// The bytes of a net.
+pub type Record = [u8; RECORD_BYTES];
 
 /// An input that allows the excitations of `allowed`, its byte 18.
 pub fn input(allowed: u8) -> Record {
-    let mut record = [0; 20];
+    let mut record = [0; RECORD_BYTES];
     record[0] = INPUT;
     record[18] = allowed;
     record
@@ -16,7 +17,7 @@ pub fn input(allowed: u8) -> Record {
 
 /// A gate with these pins, at contact 0, with delay, rise and fall of 1 tick and peaks of 0.
 pub fn gate(kind: u8, pins: &[u16]) -> Record {
-    let mut record = [0; 20];
+    let mut record = [0; RECORD_BYTES];
     record[0] = kind;
     record[2] = 1;
     record[3] = pins.len() as u8;

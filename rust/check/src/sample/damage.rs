@@ -1,33 +1,34 @@
 //! Damage to block files and to the other arguments of a call.
 
-use super::{store_length, Arguments, Random};
+use super::{Arguments, Random};
 use crate::kind::INPUT;
+use zimgurav::{store_bytes, PATTERN_BYTES, RECORD_BYTES, SHEET_WORDS};
 
 /// Values at the edges of the fields' ranges and just past them.
 const EDGES: [u8; 14] = [0, 1, 2, 4, 5, 9, 10, 15, 16, 63, 64, 127, 128, 255];
 
 /// Damages a file in one random way. It may stay valid.
 pub fn damage(random: &mut Random, file: &mut Vec<u8>) {
-    let records = file.len() / 20;
+    let records = file.len() / RECORD_BYTES;
     if records == 0 {
         file.push(random.byte(0, 255));
         return;
     }
     let net = random.below(records);
     let other = random.below(records);
-    let at = 20 * net;
+    let at = RECORD_BYTES * net;
     match random.below(13) {
         0 => file.truncate(random.below(file.len())),
-        1 => file[at + random.below(20)] = random.byte(0, 255),
-        2 | 3 => file[at + random.below(20)] = random.pick(&EDGES),
+        1 => file[at + random.below(RECORD_BYTES)] = random.byte(0, 255),
+        2 | 3 => file[at + random.below(RECORD_BYTES)] = random.pick(&EDGES),
         4 => file[at] = random.byte(0, 10),
         5 => file[at + 3] = random.byte(0, 5),
         6 => slow_down(&mut file[at..]),
-        7 | 8 => rewire(random, &mut file[at..at + 20], net),
-        9 => drop(file.drain(at..at + 20)),
-        10 => file.copy_within(at..at + 20, 20 * other),
+        7 | 8 => rewire(random, &mut file[at..at + RECORD_BYTES], net),
+        9 => drop(file.drain(at..at + RECORD_BYTES)),
+        10 => file.copy_within(at..at + RECORD_BYTES, RECORD_BYTES * other),
         11 => file.resize(file.len() + 1 + random.below(19), 0),
-        _ => repeat(file, at, 20 * other),
+        _ => repeat(file, at, RECORD_BYTES * other),
     }
 }
 
@@ -37,15 +38,21 @@ pub fn spoil(random: &mut Random, arguments: &mut Arguments) {
         0 => damage(random, &mut arguments.file),
         1 => arguments.hop_limit = random.pick(&[0, 17, 1 << 32, u64::MAX]),
         2 => arguments.table.truncate(random.pick(&[0, 1, 15, 17, 255])),
-        3 => arguments.sheet.resize(random.pick(&[0, 8191, 8193]), 1),
-        4 => arguments.pattern.resize(random.pick(&[0, 63, 65]), 1),
+        3 => {
+            let near = [0, SHEET_WORDS - 1, SHEET_WORDS + 1];
+            arguments.sheet.resize(random.pick(&near), 1);
+        }
+        4 => {
+            let near = [0, PATTERN_BYTES - 1, PATTERN_BYTES + 1];
+            arguments.pattern.resize(random.pick(&near), 1);
+        }
         5 => arguments
             .work
             .truncate(random.below(8 * arguments.file.len() + 1)),
         6 => arguments.ratio = random.pick(&[0, 999, 10_001, 1 << 32, u64::MAX]),
         7 => arguments.budget = random.pick(&[10_000, 10_001, 1 << 32, u64::MAX]),
         8 => {
-            let least = store_length(arguments.budget.min(60));
+            let least = store_bytes(arguments.budget.min(60));
             arguments.store.truncate(random.pick(&[0, 71, least - 1]));
         }
         _ => {
@@ -59,7 +66,7 @@ pub fn spoil(random: &mut Random, arguments: &mut Arguments) {
 
 /// A file of bytes with no plan, of which every other begins as an input does.
 pub fn noise(random: &mut Random) -> Vec<u8> {
-    let length = random.pick(&[1, 20]) * random.below(40);
+    let length = random.pick(&[1, RECORD_BYTES]) * random.below(40);
     let mut file: Vec<u8> = (0..length).map(|_| random.byte(0, 255)).collect();
     if let (Some(kind), 0) = (file.first_mut(), random.below(2)) {
         *kind = INPUT;
@@ -69,7 +76,7 @@ pub fn noise(random: &mut Random) -> Vec<u8> {
 
 /// Gives the gates of the records the greatest delay.
 fn slow_down(records: &mut [u8]) {
-    for record in records.chunks_exact_mut(20) {
+    for record in records.chunks_exact_mut(RECORD_BYTES) {
         if record[0] != INPUT {
             record[2] = 63;
         }
@@ -87,6 +94,6 @@ fn rewire(random: &mut Random, record: &mut [u8], net: usize) {
 
 /// Puts a copy of the record at one byte before the record at another.
 fn repeat(file: &mut Vec<u8>, from: usize, to: usize) {
-    let record = file[from..from + 20].to_vec();
+    let record = file[from..from + RECORD_BYTES].to_vec();
     file.splice(to..to, record);
 }

@@ -6,7 +6,7 @@ mod block;
 mod damage;
 mod random;
 
-pub use arguments::{allowed, patterns, store_length, Arguments};
+pub use arguments::{allowed, patterns, Arguments};
 pub use block::{
     block_f, block_s, block_with_a_cap, block_with_gaps, drawing, gate, input, peaks, silent,
     Record, Shape,

@@ -6,7 +6,7 @@ use super::current::SHEET_WORDS;
 use super::excitation::{Excitation, Signal, UncertaintySet};
 use super::read::refuse_if;
 use super::search::CASE_BYTES;
-use zimgurav::{Counts, Refusal};
+use zimgurav::{Counts, Refusal, Word};
 
 /// How many bytes of the work buffer a net needs.
 const WORK_BYTES_A_NET: u64 = 160;
@@ -37,7 +37,7 @@ pub fn check_budget(budget: u64) -> Result<(), Refusal> {
 }
 
 /// Refusal 15, place 1: the sheet is not exactly 8,192 words.
-pub fn check_sheet(sheet: &[u32]) -> Result<(), Refusal> {
+pub fn check_sheet(sheet: &[Word]) -> Result<(), Refusal> {
     refuse_if(sheet.len() != SHEET_WORDS, 15, 1)
 }
 

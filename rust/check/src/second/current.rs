@@ -3,7 +3,7 @@
 use super::block::{arrival, Record};
 use super::excitation::{Excitation, Signal};
 use super::waveform::Waveform;
-use zimgurav::Currents;
+use zimgurav::{Currents, Word};
 
 /// How many contacts there are.
 const CONTACTS: usize = 16;
@@ -11,11 +11,11 @@ const CONTACTS: usize = 16;
 /// How many ticks a row of the sheet has.
 const ROW_TICKS: usize = 512;
 
-/// How many words of 32 bits the sheet has: 16 rows of 512 ticks.
+/// How many words the sheet has: 16 rows of 512 ticks.
 pub const SHEET_WORDS: usize = CONTACTS * ROW_TICKS;
 
 /// The currents of one gate or one contact, tick by tick.
-type Row = [u32; ROW_TICKS];
+type Row = [Word; ROW_TICKS];
 
 /// Writes the sheet that the waveforms give, and returns the drop and the quiet
 /// tick. The sheet has 16 rows of 512 ticks, contact 0 first.
@@ -23,7 +23,7 @@ pub fn write_currents<S: Signal>(
     records: &[Record],
     waveforms: &[Waveform<S>],
     table: &[u16],
-    sheet: &mut [u32],
+    sheet: &mut [Word],
 ) -> Currents {
     let contacts = contact_currents(records, waveforms);
     for (place, contact) in sheet.chunks_exact_mut(ROW_TICKS).zip(&contacts) {
@@ -76,8 +76,8 @@ fn gate_current<S: Signal>(gate: &Record, waveform: &Waveform<S>) -> Row {
 
 /// A pulse, from its start until it is 0 for good: after k ticks it is
 /// floor(P × k / r) for k up to r, floor(P × (r + f − k) / f) up to r + f.
-fn pulse(peak: u16, rise: u8, fall: u8) -> Vec<u32> {
-    let (p, r, f) = (u32::from(peak), u32::from(rise), u32::from(fall));
+fn pulse(peak: u16, rise: u8, fall: u8) -> Vec<Word> {
+    let (p, r, f) = (Word::from(peak), Word::from(rise), Word::from(fall));
     let mut currents = Vec::new();
     for k in 0..=r + f {
         if k <= r {

@@ -9,7 +9,7 @@ use super::fill::fill;
 use super::frame::Frame;
 use super::read::read;
 use super::waveform::Waveform;
-use zimgurav::{Currents, Refusal};
+use zimgurav::{Currents, Refusal, Word};
 
 /// Writes the envelope of the file's block into the sheet and returns its drop
 /// and quiet tick. Of the work buffer only the size matters here.
@@ -17,7 +17,7 @@ pub fn envelope(
     file: &[u8],
     hop_limit: u64,
     table: &[u16],
-    sheet: &mut [u32],
+    sheet: &mut [Word],
     work: &mut [u8],
 ) -> Result<Currents, Refusal> {
     let counts = read(file)?;
@@ -49,7 +49,7 @@ pub fn write_envelope(
     frame: &Frame,
     hop_limit: u64,
     table: &[u16],
-    sheet: &mut [u32],
+    sheet: &mut [Word],
 ) -> Currents {
     let waveforms = filled_waveforms(records, frame, hop_limit);
     write_currents(records, &waveforms, table, sheet)

@@ -13,7 +13,7 @@ use super::excitation::Excitation;
 use super::frame::Frame;
 use super::read::read;
 use super::simulate::write_simulation;
-use zimgurav::{Found, Outcome, Refusal};
+use zimgurav::{Found, Outcome, Refusal, Word};
 
 /// The length of a case's record: 64 bytes of input sets and 8 of its upper number.
 pub const CASE_BYTES: usize = 72;
@@ -30,7 +30,7 @@ pub fn search(
     table: &[u16],
     ratio: u64,
     budget: u64,
-    sheet: &mut [u32],
+    sheet: &mut [Word],
     pattern: &mut [u8],
     work: &mut [u8],
     store: &mut [u8],
@@ -73,13 +73,13 @@ struct Block<'a> {
 
 impl Block<'_> {
     /// Writes the currents of a pattern into the sheet and returns their drop.
-    fn simulate(&self, pattern: &[Excitation], sheet: &mut [u32]) -> u64 {
+    fn simulate(&self, pattern: &[Excitation], sheet: &mut [Word]) -> u64 {
         write_simulation(self.records, pattern, self.table, sheet).drop
     }
 
     /// Writes the sheet of a frame and returns its drop: of one with every input
     /// decided the simulation's, of another the envelope's.
-    fn evaluate(&self, frame: &Frame, sheet: &mut [u32]) -> u64 {
+    fn evaluate(&self, frame: &Frame, sheet: &mut [Word]) -> u64 {
         if frame.is_decided() {
             self.simulate(&frame.probe(), sheet)
         } else {
@@ -244,7 +244,7 @@ fn write_pattern(excitations: &[Excitation], pattern: &mut [u8]) {
 }
 
 /// Writes the greatest, at each place, over the sheets of the cases.
-fn write_sheet(block: &Block, cases: &[Case], sheet: &mut [u32]) {
+fn write_sheet(block: &Block, cases: &[Case], sheet: &mut [Word]) {
     sheet.fill(0);
     let mut of_case = vec![0; SHEET_WORDS];
     for case in cases {

@@ -7,14 +7,14 @@ use super::current::write_currents;
 use super::excitation::Excitation;
 use super::read::read;
 use super::waveform::Waveform;
-use zimgurav::{Currents, Refusal};
+use zimgurav::{Currents, Refusal, Word};
 
 /// Writes the currents of the pattern into the sheet and returns their drop and
 /// quiet tick. Of the work buffer only the size matters here.
 pub fn simulate(
     file: &[u8],
     table: &[u16],
-    sheet: &mut [u32],
+    sheet: &mut [Word],
     pattern: &[u8],
     work: &mut [u8],
 ) -> Result<Currents, Refusal> {
@@ -35,7 +35,7 @@ pub fn write_simulation(
     records: &[Record],
     excitations: &[Excitation],
     table: &[u16],
-    sheet: &mut [u32],
+    sheet: &mut [Word],
 ) -> Currents {
     let waveforms = waveforms(records, excitations);
     write_currents(records, &waveforms, table, sheet)

@@ -2,9 +2,9 @@
 
 use crate::kind::INPUT;
 use crate::sample::{
-    block_with_a_cap, block_with_gaps, damage, noise, spoil, store_length, Arguments, Random,
-    Record, Shape,
+    block_with_a_cap, block_with_gaps, damage, noise, spoil, Arguments, Random, Record, Shape,
 };
+use zimgurav::{store_bytes, MOST_BUDGET, RECORD_BYTES};
 
 /// The most records that the searches of one call evaluate, in all their cases: about half a second
 /// of the second implementation.
@@ -13,9 +13,6 @@ const MOST_EVALUATED: u64 = 40_000;
 /// The most evaluations that a split adds: a simulation and an envelope for each of four children,
 /// and one of each child for the sheet.
 const EVALUATIONS_OF_A_SPLIT: u64 = 12;
-
-/// The greatest budget that is not refused.
-const MOST_BUDGET: u64 = 10_000;
 
 /// A random block and the arguments of a call: mostly valid, sometimes damaged or spoilt.
 pub fn random_call(random: &mut Random) -> Arguments {
@@ -77,7 +74,7 @@ fn random_length(random: &mut Random) -> usize {
 fn bound_splits(arguments: &mut Arguments) {
     let most = most_splits(&arguments.file);
     let accepted = arguments.budget <= MOST_BUDGET;
-    if accepted && arguments.store.len() >= store_length(arguments.budget) {
+    if accepted && arguments.store.len() >= store_bytes(arguments.budget) {
         arguments.budget = arguments.budget.min(most);
     }
 }
@@ -85,7 +82,7 @@ fn bound_splits(arguments: &mut Arguments) {
 /// How large a budget may be: any where the block has few enough patterns, since a search splits
 /// less often than there are patterns.
 fn most_splits(file: &[u8]) -> u64 {
-    let (records, _) = file.as_chunks::<20>();
+    let (records, _) = file.as_chunks::<RECORD_BYTES>();
     let inputs = records.iter().take_while(|record| record[0] == INPUT);
     let patterns = inputs.fold(1u64, |patterns, input| {
         patterns.saturating_mul(input[18].count_ones().into())

@@ -5,7 +5,7 @@ use std::time::Duration;
 
 use crate::kind::INPUT;
 use crate::sample::Arguments;
-use zimgurav::{Counts, Found, Outcome, Refusal};
+use zimgurav::{Counts, Found, Outcome, Refusal, CONTACTS, RECORD_BYTES};
 
 /// The operations, in the order in which their answers are counted.
 pub const OPERATIONS: [&str; 4] = ["Read", "Envelope", "Simulate", "Search"];
@@ -94,7 +94,7 @@ fn count_in(classes: &[(usize, &str)], counts: &mut [u64], number: usize) {
 impl Coverage {
     /// Counts the block of a call, and what it is made of where it is accepted.
     pub fn count_block(&mut self, call: &Arguments, read: Result<Counts, Refusal>) {
-        let (records, _) = call.file.as_chunks::<20>();
+        let (records, _) = call.file.as_chunks::<RECORD_BYTES>();
         self.blocks += 1;
         count_in(&SIZES, &mut self.sizes, records.len());
         let Ok(counts) = read else { return };
@@ -113,7 +113,7 @@ impl Coverage {
 
     /// Counts an accepted envelope of which so many gates had a gap filled.
     pub fn count_envelope(&mut self, call: &Arguments, counts: Counts, filled: u64) {
-        count_in(&NODES, &mut self.nodes, call.table.len() / 16);
+        count_in(&NODES, &mut self.nodes, call.table.len() / CONTACTS);
         self.hop_limits[call.hop_limit as usize - 1] += 1;
         self.gates += counts.nets - counts.inputs;
         self.filled += filled;

@@ -17,6 +17,7 @@ use crate::sample::{allowed, Arguments, Random};
 use crate::second;
 pub use coverage::Coverage;
 use coverage::OPERATIONS;
+use zimgurav::RECORD_BYTES;
 
 /// How many random patterns are held against each accepted search.
 const PATTERNS: usize = 3;
@@ -125,7 +126,7 @@ fn hold_against_simulations(
     searched.has_the_greatest_upper_number()?;
     searched.hands_over_a_pattern(implementation)?;
     coverage.capped += searched.capped_cases(implementation)?;
-    let (block, _) = searched.lent.file.as_chunks::<20>();
+    let (block, _) = searched.lent.file.as_chunks::<RECORD_BYTES>();
     let inputs = || block.iter().take_while(|record| record[0] == INPUT);
     let mut lent = searched.without_the_store();
     for _ in 0..PATTERNS {

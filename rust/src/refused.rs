@@ -1,0 +1,44 @@
+//! The refusals, by their numbers.
+//!
+//! Of several that apply the lowest is answered, but of 4 to 10 that of the lowest net. The place
+//! is the net for 4 to 10 and for 16. For 15 it is 1 for the sheet, 2 for the pattern, 3 for the
+//! work buffer, 4 for the case store, of several the lowest. Else it is 0.
+
+/// Names each refusal and says what it means.
+macro_rules! refusals {
+    ($($name:ident = $number:literal, $meaning:literal;)*) => {
+        $(
+            #[doc = concat!("Refusal ", $number, ": ", $meaning, ".")]
+            pub const $name: u64 = $number;
+        )*
+
+        /// What the refusal with this number means.
+        pub fn meaning(number: u64) -> Option<&'static str> {
+            match number {
+                $($name => Some($meaning),)*
+                _ => None,
+            }
+        }
+    };
+}
+
+refusals! {
+    LENGTH = 1, "the file's length is not a multiple of 20 bytes";
+    RECORDS = 2, "the file has more than 1,024 records";
+    FIRST = 3, "the file has no record, or its first record is not an input";
+    KIND = 4, "a record's kind is 0 or above 9";
+    INPUT = 5, "an input stands after a gate, or is the 65th";
+    PIN_COUNT = 6, "a gate's pin count is wrong for its kind";
+    STRAY_BYTE = 7, "a byte that has to be 0 is not: 1 to 17 or 19 of an input, \
+                     or an unused pin, 18 or 19 of a gate";
+    PIN = 8, "a gate's pin is not a net below its own";
+    RANGE = 9, "a gate's contact, delay, rise or fall, \
+                or an input's set of allowed excitations, is out of range";
+    ARRIVAL = 10, "a gate's arrival is after tick 255";
+    HOP_LIMIT = 11, "the hop limit is not 1 to 16";
+    TABLE = 12, "the table does not have 16 resistances for each of 1 to 16 bus nodes";
+    RATIO = 13, "the ratio is not 1,000 to 10,000";
+    BUDGET = 14, "the budget is above 10,000";
+    BUFFER = 15, "a lent buffer has the wrong size";
+    PATTERN = 16, "an input's byte of the pattern is no excitation that the input is allowed";
+}
