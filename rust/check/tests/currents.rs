@@ -540,12 +540,13 @@ mod buffers {
 mod soundness {
     use super::*;
 
-    /// Each word of each pattern's sheet, and its drop, is at most the envelope's.
+    /// Each word of each pattern's sheet, as the second implementation has it, and its drop, are at most
+    /// those of the library's envelope.
     #[test]
     fn every_pattern_is_below_the_envelope() {
         let mut random = Random::new(4);
         let mut reached = 0;
-        for _ in 0..400 {
+        for _ in 0..40 {
             let inputs = 1 + random.below(4);
             let shape = Shape {
                 inputs,
@@ -557,7 +558,7 @@ mod soundness {
             let mut under = ceiling.clone();
             for pattern in patterns(&block) {
                 under.pattern[..inputs].copy_from_slice(&pattern);
-                let currents = LIBRARY.simulate(&mut under).expect("accepted");
+                let currents = SECOND.simulate(&mut under).expect("accepted");
                 assert!(currents.drop <= envelope.drop);
                 assert_eq!(currents.quiet, envelope.quiet);
                 let mut words = under.sheet.iter().zip(&ceiling.sheet);
@@ -566,7 +567,7 @@ mod soundness {
             }
         }
         println!("drops above 0 and below the envelope's: {reached}");
-        assert!(reached >= 1_000, "the envelope is hardly ever above a drop");
+        assert!(reached >= 100, "the envelope is hardly ever above a drop");
     }
 
     /// After the quiet tick every row is 0.

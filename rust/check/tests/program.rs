@@ -1,12 +1,16 @@
-//! The program: a block file on standard input, the search's answer and pattern on standard output.
+//! The program: a block file on standard input, the search's answer and pattern on standard output, and a
+//! line on standard error where the one cannot be read or the other cannot be written.
 //!
 //! It is `target/bin/estimate`, which the gate builds before it runs the tests.
 
+use std::fs::{self, File};
 use std::io::{ErrorKind, Write};
+use std::os::fd::OwnedFd;
+use std::os::unix::net::UnixStream;
 use std::path::{Path, PathBuf};
-use std::process::{Command, Stdio};
+use std::process::{Child, Command, Stdio};
 use std::thread;
-use std::time::Duration;
+use std::time::{Duration, Instant};
 
 use check::implementation::SECOND;
 use check::kind::{AND, BUF, NOT};
@@ -27,11 +31,37 @@ fn program() -> PathBuf {
     path
 }
 
-/// What the program prints for these pieces of standard input, one written after the other.
+/// Starts a command with this standard input and output, and a pipe for standard error.
+fn start(command: &mut Command, input: impl Into<Stdio>, output: impl Into<Stdio>) -> Child {
+    let command = command.stdin(input).stdout(output).stderr(Stdio::piped());
+    command.spawn().expect("the program starts")
+}
+
+/// Starts the program with this standard input, and a pipe for standard output.
+fn start_on(input: impl Into<Stdio>) -> Child {
+    start(&mut Command::new(program()), input, Stdio::piped())
+}
+
+/// What the program writes on standard output, where that is a pipe, and on standard error. Its status is
+/// 0 however it ends.
+fn written(mut child: Child) -> [String; 2] {
+    let started = Instant::now();
+    while child.try_wait().expect("a status").is_none() {
+        if started.elapsed() > Duration::from_secs(60) {
+            child.kill().expect("the program is killed");
+            panic!("the program does not end");
+        }
+        thread::sleep(Duration::from_millis(1));
+    }
+    let output = child.wait_with_output().expect("what was written");
+    assert!(output.status.success(), "{}", output.status);
+    [output.stdout, output.stderr].map(|bytes| String::from_utf8(bytes).expect("text"))
+}
+
+/// What the program prints for these pieces of standard input, one written after the other. It writes
+/// nothing on standard error.
 fn printed<'a>(pieces: impl IntoIterator<Item = &'a [u8]>) -> String {
-    let mut command = Command::new(program());
-    command.stdin(Stdio::piped()).stdout(Stdio::piped());
-    let mut child = command.spawn().expect("the program starts");
+    let mut child = start_on(Stdio::piped());
     let mut stdin = child.stdin.take().expect("a pipe");
     for piece in pieces {
         match stdin.write_all(piece) {
@@ -41,9 +71,9 @@ fn printed<'a>(pieces: impl IntoIterator<Item = &'a [u8]>) -> String {
         }
     }
     drop(stdin);
-    let output = child.wait_with_output().expect("the program ends");
-    assert!(output.status.code().is_some(), "{}", output.status);
-    String::from_utf8(output.stdout).expect("text")
+    let [output, error] = written(child);
+    assert_eq!(error, "", "on standard error");
+    output
 }
 
 #[track_caller]
@@ -92,13 +122,14 @@ fn fan(records: usize) -> Vec<u8> {
     block.concat()
 }
 
+const BLOCK_S: &[u8; 60] = include_bytes!("../../../examples/block_s.blk");
+
 mod examples {
     use super::*;
 
     #[test]
     fn block_s() {
-        let file = include_bytes!("../../../examples/block_s.blk");
-        prints(file, "exact 10 10 1 4\nlh\n");
+        prints(BLOCK_S, "exact 10 10 1 4\nlh\n");
     }
 
     #[test]
@@ -208,6 +239,159 @@ mod refusals {
         }
         chain[255][2] = 2;
         prints(&chain.concat(), "refused 10 255\n");
+    }
+}
+
+/// The end that sends these bytes, open, and the end at which they are received.
+fn sent(bytes: &[u8]) -> (UnixStream, UnixStream) {
+    let (mut sender, receiver) = UnixStream::pair().expect("two ends");
+    sender.write_all(bytes).expect("sent");
+    (sender, receiver)
+}
+
+/// A standard input of these bytes.
+fn ended_after(bytes: &[u8]) -> OwnedFd {
+    let (_, receiver) = sent(bytes);
+    receiver.into()
+}
+
+/// A standard input of these bytes that fails when it is read on, since it would block as long as the
+/// sender, which comes first, is open.
+fn blocked_after(bytes: &[u8]) -> (UnixStream, OwnedFd) {
+    let (sender, receiver) = sent(bytes);
+    receiver.set_nonblocking(true).expect("set");
+    (sender, receiver.into())
+}
+
+/// A shell that runs a script in which `$0` is the program.
+fn shell(script: &str) -> Command {
+    let mut command = Command::new("sh");
+    command.arg("-c").arg(script).arg(program());
+    command
+}
+
+/// Where standard input cannot be read, there is no answer: neither to what was read before, nor to nothing.
+mod unread {
+    use super::*;
+
+    #[track_caller]
+    fn says_so(child: Child) {
+        let message = "estimate: standard input cannot be read; no answer\n";
+        assert_eq!(written(child), ["", message]);
+    }
+
+    /// Before the first byte, within a record, after records that would be a block, and where one byte
+    /// more would be refused.
+    #[test]
+    fn where_it_would_block() {
+        for length in [0, 20, 30, 59, 60] {
+            let (_sender, input) = blocked_after(&BLOCK_S[..length]);
+            says_so(start_on(input));
+        }
+        let (_sender, input) = blocked_after(&fan(256));
+        says_so(start_on(input));
+    }
+
+    #[test]
+    fn where_it_is_a_directory() {
+        let folder = File::open(env!("CARGO_MANIFEST_DIR")).expect("opened");
+        says_so(start_on(folder));
+    }
+
+    #[test]
+    fn where_it_is_closed() {
+        let mut closed = shell(r#"exec "$0" <&-"#);
+        says_so(start(&mut closed, Stdio::null(), Stdio::piped()));
+    }
+}
+
+/// Where the answer cannot be written, the program says so once, whatever the answer is.
+mod unwritten {
+    use super::*;
+
+    #[track_caller]
+    fn says_so(child: Child) {
+        let message = "estimate: the answer cannot be written\n";
+        assert_eq!(written(child), ["", message]);
+    }
+
+    /// Standard inputs whose answers are an accepted search, a refusal and the refusal of too many bytes.
+    fn inputs() -> [OwnedFd; 3] {
+        [BLOCK_S, &BLOCK_S[..30], &fan(257)].map(ended_after)
+    }
+
+    #[test]
+    fn on_a_full_disk() {
+        for input in inputs() {
+            let full = File::options().write(true).open("/dev/full");
+            let output = full.expect("a full disk");
+            says_so(start(&mut Command::new(program()), input, output));
+        }
+    }
+
+    #[test]
+    fn where_standard_output_is_closed() {
+        for input in inputs() {
+            let mut closed = shell(r#"exec "$0" >&-"#);
+            says_so(start(&mut closed, input, Stdio::null()));
+        }
+    }
+
+    /// The file may have 512 bytes, which leaves room for the first word of the answer.
+    #[test]
+    fn where_there_is_no_room_for_the_whole() {
+        let path = Path::new(env!("CARGO_TARGET_TMPDIR")).join("nearly_full");
+        fs::write(&path, [b'-'; 507]).expect("written");
+        let output = File::options().append(true).open(&path).expect("opened");
+        let mut limited = shell(r#"ulimit -f 1 && trap '' XFSZ && exec "$0""#);
+        says_so(start(&mut limited, ended_after(BLOCK_S), output));
+        let text = fs::read_to_string(&path).expect("read");
+        assert_eq!(text.trim_start_matches('-'), "exact");
+    }
+}
+
+/// Where there is an answer, nothing is written on standard error.
+#[test]
+fn nothing_is_said_beside_an_answer() {
+    let answers = [
+        (60, "exact 10 10 1 4\nlh\n"),
+        (20, "exact 0 0 0 1\nlh\n"),
+        (30, "refused 1 0\n"),
+        (0, "refused 3 0\n"),
+    ];
+    for (length, answer) in answers {
+        let child = start_on(ended_after(&BLOCK_S[..length]));
+        assert_eq!(written(child), [answer, ""]);
+    }
+}
+
+/// The program does not wait for the end of a standard input of which 5,121 bytes are in, nor for more bytes.
+mod without_an_end {
+    use super::*;
+
+    #[track_caller]
+    fn is_refused(child: Child) {
+        assert_eq!(written(child), ["refused 2 0\n", ""]);
+    }
+
+    #[test]
+    fn a_pipe_that_stays_open() {
+        let mut child = start_on(Stdio::piped());
+        let mut stdin = child.stdin.take().expect("a pipe");
+        let bytes = &fan(257)[..MOST_BYTES + 1];
+        stdin.write_all(bytes).expect("written");
+        is_refused(child);
+    }
+
+    #[test]
+    fn what_would_block() {
+        let (_sender, input) = blocked_after(&fan(257)[..MOST_BYTES + 1]);
+        is_refused(start_on(input));
+    }
+
+    #[test]
+    fn a_device() {
+        is_refused(start_on(File::open("/dev/zero").expect("opened")));
     }
 }
 

@@ -3,7 +3,7 @@
 //! must give them.
 
 use check::agreement::Searched;
-use check::implementation::{LIBRARY, SECOND};
+use check::implementation::{Implementation, LIBRARY, SECOND};
 use check::kind::{AND, BUF, INPUT, NOT, XOR};
 use check::pattern::{H, HL, L, LH};
 use check::sample::{self, gate, input, patterns, peaks, silent, Arguments, Random, Record, Shape};
@@ -68,9 +68,9 @@ fn finds(arguments: &Arguments, expected: &Expected) {
     }
 }
 
-/// The library's search with these arguments, which it accepts.
-fn searched(mut arguments: Arguments) -> Searched {
-    let found = LIBRARY.search(&mut arguments).expect("accepted");
+/// An implementation's search with these arguments, which it accepts.
+fn searched(implementation: &Implementation, mut arguments: Arguments) -> Searched {
+    let found = implementation.search(&mut arguments).expect("accepted");
     Searched {
         lent: arguments,
         found,
@@ -574,7 +574,8 @@ mod bounds {
         };
         let arguments = arguments.with_budget(1);
         finds(&arguments, &split);
-        assert_eq!(searched(arguments).capped_cases(&LIBRARY), Ok(1));
+        let searched = searched(&LIBRARY, arguments);
+        assert_eq!(searched.capped_cases(&SECOND), Ok(1));
     }
 
     /// Net 1 joins net 0 with itself, which draws in the envelope alone. No ratio reaches from 0.
@@ -691,14 +692,14 @@ mod buffers {
     }
 }
 
-/// Search against Simulate, by every pattern of small frames.
+/// The library's Search against the second implementation's Simulate, by every pattern of small frames.
 mod agreement {
     use super::*;
 
     /// What each search has to satisfy by itself.
     fn is_right(searched: &Searched) -> Result<(), String> {
         searched.has_the_right_outcome()?;
-        searched.hands_over_a_pattern(&LIBRARY)?;
+        searched.hands_over_a_pattern(&SECOND)?;
         searched.has_the_greatest_upper_number()
     }
 
@@ -708,7 +709,7 @@ mod agreement {
         let mut second = Arguments::random(random, block);
         second.table.clone_from(&first.table);
         second.hop_limit = 1 + (first.hop_limit + random.below(15) as u64) % 16;
-        [first, second].map(searched)
+        [first, second].map(|arguments| searched(&LIBRARY, arguments))
     }
 
     /// Demand 3, on small frames.
@@ -717,7 +718,7 @@ mod agreement {
         let mut random = Random::new(8);
         let mut outcomes = [0; 3];
         let mut patterns_below = 0;
-        for _ in 0..2_000 {
+        for _ in 0..200 {
             let block = small_block(&mut random);
             let searches = two_searches(&mut random, &block);
             for searched in &searches {
@@ -727,7 +728,7 @@ mod agreement {
             let mut under = searches[0].lent.clone();
             for pattern in patterns(&block) {
                 under.pattern[..pattern.len()].copy_from_slice(&pattern);
-                let drop = LIBRARY.simulate(&mut under).expect("accepted").drop;
+                let drop = SECOND.simulate(&mut under).expect("accepted").drop;
                 for searched in &searches {
                     assert_eq!(searched.is_above(&pattern, drop, &under.sheet), Ok(()));
                     patterns_below += usize::from(0 < drop && drop < searched.found.upper);
@@ -735,34 +736,34 @@ mod agreement {
             }
         }
         println!("exact, within, spent: {outcomes:?}, drops below U: {patterns_below}");
-        assert!(outcomes.iter().all(|&times| times >= 200), "{outcomes:?}");
-        assert!(patterns_below >= 10_000, "U is hardly ever above a drop");
+        assert!(outcomes.iter().all(|&times| times >= 20), "{outcomes:?}");
+        assert!(patterns_below >= 1_000, "U is hardly ever above a drop");
     }
 
-    /// With N patterns a budget of N - 1 is never spent. With fewer than the splits that the search
-    /// makes it is, and with as many it is not.
+    /// With N patterns a budget of N - 1 is never spent. With fewer than the splits that the library
+    /// makes the second implementation's is, and with as many it is not.
     #[test]
     fn of_budget_and_patterns() {
         let mut random = Random::new(9);
         let mut split = 0;
-        for _ in 0..200 {
+        for _ in 0..20 {
             let block = small_block(&mut random);
             let mut arguments = Arguments::random(&mut random, &block);
             arguments.ratio = random.pick(&[1_000, 1_000, 1_050]);
             let enough = patterns(&block).len() as u64 - 1;
-            let found = searched(arguments.clone().with_budget(enough)).found;
+            let found = searched(&LIBRARY, arguments.clone().with_budget(enough)).found;
             assert_ne!(found.outcome, Outcome::Spent);
             let splits = found.splits;
-            let same = searched(arguments.clone().with_budget(splits));
+            let same = searched(&SECOND, arguments.clone().with_budget(splits));
             assert_eq!(same.found, found);
             if splits > 0 {
-                let fewer = searched(arguments.with_budget(splits - 1));
+                let fewer = searched(&SECOND, arguments.with_budget(splits - 1));
                 assert_eq!(fewer.found.outcome, Outcome::Spent);
                 assert_eq!(fewer.found.splits, splits - 1);
                 split += 1;
             }
         }
         println!("split: {split}");
-        assert!(split >= 50, "hardly anything was split: {split}");
+        assert!(split >= 5, "hardly anything was split: {split}");
     }
 }

@@ -17,21 +17,20 @@ const FILES: [(&str, usize); 5] = [
     ("small.txt", 90),
 ];
 
-/// One line, `OPERATION ARGUMENTS = RESULT`, in words.
+/// A call, `OPERATION ARGUMENTS`, and its right answer, in words.
 struct Vector<'a> {
     operation: &'a str,
     arguments: Vec<&'a str>,
-    result: Vec<&'a str>,
+    answer: Vec<&'a str>,
 }
 
 impl<'a> Vector<'a> {
-    fn parse(line: &'a str) -> Self {
-        let (call, result) = line.split_once(" = ").expect("an equals sign");
+    fn parse(call: &'a str, answer: &'a str) -> Self {
         let mut words = call.split(' ');
         Vector {
             operation: words.next().expect("an operation"),
             arguments: words.collect(),
-            result: result.split(' ').collect(),
+            answer: answer.split(' ').collect(),
         }
     }
 
@@ -40,7 +39,7 @@ impl<'a> Vector<'a> {
         let [file] = self.arguments[..] else {
             panic!("read takes a file, {at}");
         };
-        let expected = match self.result[..] {
+        let expected = match self.answer[..] {
             ["read", nets, inputs] => Ok(Counts {
                 nets: decimal(nets),
                 inputs: decimal(inputs),
@@ -89,7 +88,7 @@ impl<'a> Vector<'a> {
     }
 
     /// Calls Search in both implementations and compares the answer, the pattern, the sheet and the
-    /// case store with the line's result. A refusal leaves everything as it was.
+    /// case store with the right answer. A refusal leaves everything as it was.
     fn run_search(&self, at: &str) {
         let [file, hop_limit, table, ratio, budget, sheet, pattern, work, store] =
             self.arguments[..]
@@ -111,7 +110,7 @@ impl<'a> Vector<'a> {
             let name = implementation.name;
             let mut lent = arguments.clone();
             let answer = implementation.search(&mut lent);
-            if let [word, upper, lower, splits, cases, pattern, sheet, store] = self.result[..] {
+            if let [word, upper, lower, splits, cases, pattern, sheet, store] = self.answer[..] {
                 let expected = Found {
                     outcome: outcome(word),
                     upper: decimal(upper),
@@ -130,14 +129,14 @@ impl<'a> Vector<'a> {
         }
     }
 
-    /// Makes a call in both implementations and compares the answer and the sheet with the line's
-    /// result. A refusal leaves everything as it was.
+    /// Makes a call in both implementations and compares the answer and the sheet with the right
+    /// answer. A refusal leaves everything as it was.
     fn run_currents(&self, arguments: &Arguments, call: Operation<Currents>, at: &str) {
         for implementation in [LIBRARY, SECOND] {
             let name = implementation.name;
             let mut lent = arguments.clone();
             let answer = call(&implementation, &mut lent);
-            if let ["ok", drop, quiet, hash] = self.result[..] {
+            if let ["ok", drop, quiet, hash] = self.answer[..] {
                 let expected = Currents {
                     drop: decimal(drop),
                     quiet: decimal(quiet),
@@ -151,9 +150,9 @@ impl<'a> Vector<'a> {
         }
     }
 
-    /// The refusal that is the line's result.
+    /// The refusal that is the right answer.
     fn refusal(&self, at: &str) -> Refusal {
-        let ["refused", number, place] = self.result[..] else {
+        let ["refused", number, place] = self.answer[..] else {
             panic!("no answer of {}, {at}", self.operation);
         };
         Refusal {
@@ -226,24 +225,31 @@ fn hash(bytes: impl IntoIterator<Item = u8>) -> String {
     format!("{hash:016x}")
 }
 
-/// The folder of the vector files.
-fn folder() -> PathBuf {
-    Path::new(env!("CARGO_MANIFEST_DIR")).join("tests/vectors")
+/// The folder of the calls, or of the answers.
+fn folder(part: &str) -> PathBuf {
+    Path::new(env!("CARGO_MANIFEST_DIR"))
+        .join("tests/vectors")
+        .join(part)
 }
 
-/// Runs an operation's lines of each file.
+/// A file of calls, or of answers.
+fn text(part: &str, name: &str) -> String {
+    fs::read_to_string(folder(part).join(name)).expect("a vector file")
+}
+
+/// Makes an operation's calls of each file; the answer stands on the line that the call does.
 fn run(operation: &str, call: impl Fn(&Vector, &str)) {
-    for (name, lines) in FILES {
-        let text = fs::read_to_string(folder().join(name)).expect("a vector file");
-        let mut run = 0;
-        for (index, line) in text.lines().enumerate() {
-            let vector = Vector::parse(line);
+    for (name, expected) in FILES {
+        let (calls, answers) = (text("calls", name), text("answers", name));
+        let mut made = 0;
+        for (index, (line, answer)) in calls.lines().zip(answers.lines()).enumerate() {
+            let vector = Vector::parse(line, answer);
             if vector.operation == operation {
                 call(&vector, &format!("line {} of {name}", index + 1));
-                run += 1;
+                made += 1;
             }
         }
-        assert_eq!(run, lines, "{operation} lines of {name}");
+        assert_eq!(made, expected, "{operation} lines of {name}");
     }
 }
 
@@ -267,20 +273,25 @@ fn every_search_line() {
     run("search", |vector, at| vector.run_search(at));
 }
 
+/// Each call is of one of the four operations, and has an answer.
 #[test]
 fn no_line_is_left_out() {
-    for (name, lines) in FILES {
-        let text = fs::read_to_string(folder().join(name)).expect("a vector file");
-        assert_eq!(text.lines().count(), 4 * lines, "lines of {name}");
+    for (name, calls) in FILES {
+        for part in ["calls", "answers"] {
+            let lines = text(part, name).lines().count();
+            assert_eq!(lines, 4 * calls, "lines of {part}/{name}");
+        }
     }
 }
 
 #[test]
 fn no_file_is_left_out() {
-    let entries = fs::read_dir(folder()).expect("the folder of the vectors");
-    let names = entries.map(|entry| entry.expect("a file").file_name());
-    let texts = names.filter(|name| name.to_string_lossy().ends_with(".txt"));
-    let mut texts: Vec<_> = texts.collect();
-    texts.sort();
-    assert_eq!(texts, FILES.map(|(name, _)| name));
+    for part in ["calls", "answers"] {
+        let entries = fs::read_dir(folder(part)).expect("a folder of vectors");
+        let mut names: Vec<_> = entries
+            .map(|entry| entry.expect("a file").file_name())
+            .collect();
+        names.sort();
+        assert_eq!(names, FILES.map(|(name, _)| name), "files of {part}");
+    }
 }
