@@ -12,7 +12,10 @@ use Rattle.block.specs.Examples.{blockS, blockF}
 use Rattle.block.specs.Gate.{gateValue}
 use Rattle.block.specs.Kind.{kindOf}
 use Rattle.block.specs.Record.{isInput}
+use Rattle.block.specs.Refusals.{within, readOf}
+use Rattle.block.specs.Verdict.{verdict}
 use Rattle.block.specs.View.{gateOf}
+use Rattle.block.specs.declared.Verdict.the-variants.{Accepted}
 use Rattle.block.proofs.Examples.{block-examples}
 use Rattle.fill.specs.Fill.{holding, ticksInside, fillTicks, setsHolding, filled}
 use Rattle.fill.specs.Runs.{extend, runsFrom, gapsAfter, gaps, shorter, shortest, close, closeFirst, closeShortest, closeWhile, merged, inside}
@@ -22,12 +25,15 @@ use Rattle.current.specs.Current.{ticksWhere, greatestAt, gateCurrent, drawsAt,
 use Rattle.current.specs.Examples.{tableF}
 use Rattle.current.specs.Pulse.{levelAfter, pulse, pulseAt}
 use Rattle.current.proofs.Examples.{current-examples}
+use Rattle.operation.proofs.Operations.{by-arguments}
 use Rattle.operation.specs.declared.Outcome.the-variants.{Exact, Within, Spent}
 use Rattle.cases.specs.Case.{undecided, decided, firstAllowed, probe, evaluationOf, membersBelow, childrenBelow}
 use Rattle.cases.specs.Choice.{coneSizes, rankOf, rank, chosenInput}
 use Rattle.cases.specs.Search.{upperAt, setsAt, greatestUpper, nextSplit, placed, outcomeOf, better, bestOf, firstBest, madeUnder, firstState, nextChildren, split, outcomeAt, searchFrom, search}
 use Rattle.examples.specs.Starred.{tableS, searching, finding, SearchExamples, Starred}
-use Rattle.search.specs.Search.{searchOf, foundBy}
+use Rattle.search.specs.Search.{searchOf, foundBy, argumentChecks, searchVerdict}
+use Rattle.program.specs.Lines.{ascii, digits, decimal, line}
+use Rattle.program.specs.Program.{programArguments, excitationWord, searchText, programText}
 
 -- Block F, and block S with no split and as the program searches it.
 
@@ -46,6 +52,30 @@ block-S : (foundBy (searchOf (searching blockS tableS 1000 200)) ≡ finding Exa
 unfolding allBelow anyBelow maxBelow argmax sumBelow countBelow inTurn listBelow excitationOf member decode joinSets each size isInput kindOf gateValue gateOf switchingTick inputsBelow frame feeds fedFrom coneSize extend runsFrom gapsAfter gaps shorter shortest close closeFirst closeShortest closeWhile merged inside holding ticksInside fillTicks setsHolding filled earlier inputWaveform gateFrom pinWaveform gateAt gateWaveform netWaveform waveforms levelAfter pulse pulseAt ticksWhere greatestAt gateCurrent drawsAt part contactCurrent dropAt dropOf transitionsOf sheetOf undecided decided firstAllowed probe evaluationOf membersBelow childrenBelow coneSizes rankOf rank chosenInput upperAt setsAt greatestUpper nextSplit placed outcomeOf better bestOf firstBest madeUnder firstState nextChildren split outcomeAt searchFrom search searchOf foundBy
 block-S = (refl, refl)
 
+-- The program on block S: it passes all checks, and what is found is printed.
+
+arguments-pass : Accepted ≡ verdict (argumentChecks 3 10 16 1000 200 8192 64 40960 43272)
+unfolding verdict argumentChecks within
+arguments-pass = refl
+
+passes-S : searchVerdict (programArguments blockS) ≡ Accepted
+unfolding searchVerdict programArguments
+passes-S =
+    by-arguments blockS (λ nets inputs. argumentChecks nets 10 16 1000 200 8192 64 40960 43272) (λ v. v ≡ Accepted) {read = readOf blockS} refl
+    (block-examples .read-S) arguments-pass refl refl
+
+found-S : foundBy (searchOf (programArguments blockS)) ≡ finding Exact 10 10 1 4
+unfolding programArguments searchOf
+found-S = block-S .0
+
+probe-S : searchOf (programArguments blockS) .state .best .pattern ≡ lh ∷ []
+unfolding programArguments searchOf
+probe-S = block-S .1
+
+text-S : programText blockS ≡ ascii "exact 10 10 1 4\nlh\n"
+unfolding programText searchText line decimal digits excitationWord
+text-S = rw (passes-S, found-S, probe-S) refl
+
 search-examples : SearchExamples
 search-examples = record {
   exact-F = block-F .0;
@@ -54,6 +84,7 @@ search-examples = record {
   within-S = unsplit-S .1;
   exact-S = block-S .0;
   pattern-S = block-S .1;
+  program-S = text-S;
 }
 
 pub starred : Starred

@@ -14,6 +14,8 @@ use Rattle.operation.specs.declared.Found.{Found}
 use Rattle.operation.specs.declared.Outcome.{Outcome}
 use Rattle.operation.specs.declared.Outcome.the-variants.{Exact, Within, Spent}
 use Rattle.search.specs.Search.{SearchArguments, searchOf, foundBy}
+use Rattle.program.specs.Lines.{ascii}
+use Rattle.program.specs.Program.{programText}
 
 -- One node: 16 resistances of 1.
 abbrev pub tableS : List ℕ
@@ -44,9 +46,10 @@ pub record SearchExamples : Type 0 where
   -- Block S, resistance 1: ★ budget 0, ratio 1,999: spent, U 20, L 10; ★ ratio 2,000: within.
   pub spent-S : foundBy (searchOf (searching blockS tableS 1999 0)) ≡ finding Spent 20 10 0 1
   pub within-S : foundBy (searchOf (searching blockS tableS 2000 0)) ≡ finding Within 20 10 0 1
-  -- What the program finds of block S.
+  -- What the program finds of block S, and prints.
   pub exact-S : foundBy (searchOf (searching blockS tableS 1000 200)) ≡ finding Exact 10 10 1 4
   pub pattern-S : searchOf (searching blockS tableS 1000 200) .state .best .pattern ≡ lh ∷ []
+  pub program-S : programText blockS ≡ ascii "exact 10 10 1 4\nlh\n"
 
 -- Every starred example is a field of one of these records, marked there with its star.
 pub record Starred : Type 0 where
