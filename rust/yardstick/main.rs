@@ -9,7 +9,7 @@ use std::path::Path;
 use baseline::fast;
 use check::implementation::{Implementation, LIBRARY, SECOND};
 use check::measure::{bench_block, compare, compare_searches, full_blocks};
-use zimgurav::{Counts, Currents, Found, Outcome, Refusal};
+use zimgurav::{Counts, Currents, Found, Outcome, Refusal, Word};
 
 const YARDSTICK: Implementation =
     Implementation::new("yardstick", read, envelope, simulate, search);
@@ -25,7 +25,7 @@ fn envelope(
     file: &[u8],
     hop_limit: u64,
     table: &[u16],
-    sheet: &mut [u32],
+    sheet: &mut [Word],
     work: &mut [u8],
 ) -> Result<Currents, Refusal> {
     let answer = fast::envelope(file, hop_limit, table, sheet, work);
@@ -35,7 +35,7 @@ fn envelope(
 fn simulate(
     file: &[u8],
     table: &[u16],
-    sheet: &mut [u32],
+    sheet: &mut [Word],
     pattern: &[u8],
     work: &mut [u8],
 ) -> Result<Currents, Refusal> {
@@ -50,7 +50,7 @@ fn search(
     table: &[u16],
     ratio: u64,
     budget: u64,
-    sheet: &mut [u32],
+    sheet: &mut [Word],
     pattern: &mut [u8],
     work: &mut [u8],
     store: &mut [u8],

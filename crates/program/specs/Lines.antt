@@ -14,12 +14,15 @@ abbrev pub ascii : String → List ℕ
 ascii end = []
 ascii (c before rest) = code c ∷ ascii rest
 
--- The digits of a number that has at most so many: a number below 10 is one digit, another has its last digit after those of its tenth.
+-- In ASCII 48 to 57 are the digits, 32 is the blank, and 10 ends a line.
+
+-- The digits of a number that has at most so many: a number below 10 is one digit; any other has the digits of the number divided by 10,
+-- and then its last one.
 unfoldable pub digits : ℕ → ℕ → List ℕ
 digits zero n = []
 digits (suc most) n = elim (ltb n 10) [ true ↦ (48 + n) ∷ [] | false ↦ digits most (n / 10) ++ ((48 + n % 10) ∷ []) ]
 
--- A number in decimal, digit by digit. It has no more digits than suc n.
+-- A number in decimal, digit by digit. No number n has more than n + 1 digits.
 unfoldable pub decimal : ℕ → List ℕ
 decimal n = digits (suc n) n
 

@@ -7,7 +7,7 @@ use check::implementation::{Implementation, LIBRARY, SECOND};
 use check::kind::{AND, BUF, INPUT, NOT, XOR};
 use check::pattern::{H, HL, L, LH};
 use check::sample::{self, gate, input, patterns, peaks, silent, Arguments, Random, Record, Shape};
-use zimgurav::{Found, Outcome};
+use zimgurav::{Found, Outcome, Word};
 
 /// The cases in a store: the sets of each one's inputs, and its upper number.
 type Cases<'a> = [(&'a [u8], u64)];
@@ -22,7 +22,7 @@ struct Expected<'a> {
     pattern: &'a [u8],
     cases: &'a Cases<'a>,
     /// The sheet from contact 0, tick 0 on. It is 0 after what is written.
-    sheet: &'a [u32],
+    sheet: &'a [Word],
 }
 
 impl Expected<'_> {
@@ -182,7 +182,7 @@ mod block_s {
                 splits: 0,
                 pattern: &[probe],
                 cases: &[(&[set], drop)],
-                sheet: &[0, drop as u32],
+                sheet: &[0, drop as Word],
             };
             finds(&Arguments::new(&block), &expected);
         }
@@ -499,8 +499,8 @@ mod bounds {
         }
     }
 
-    const FILLED: [u32; 10] = [0, 0, 10, 10, 10, 110, 10, 10, 10, 10];
-    const SIMULATED: [u32; 10] = [0, 0, 10, 0, 0, 100, 0, 0, 0, 10];
+    const FILLED: [Word; 10] = [0, 0, 10, 10, 10, 110, 10, 10, 10, 10];
+    const SIMULATED: [Word; 10] = [0, 0, 10, 0, 0, 100, 0, 0, 0, 10];
 
     /// The trap of reading a decided case's drop from the envelope, which is 110.
     #[test]
@@ -669,7 +669,7 @@ mod buffers {
             let cases = 72 * found.cases as usize;
             for more in [0, 1, 72, 1 << 16] {
                 let mut dirty = arguments.clone();
-                dirty.sheet.fill_with(|| random.bits() as u32);
+                dirty.sheet.fill_with(|| random.bits() as Word);
                 dirty.work.resize(160 * block.len() + more, 0);
                 dirty.store.resize(clean.store.len() + more, 0);
                 for buffer in [&mut dirty.pattern, &mut dirty.work, &mut dirty.store] {

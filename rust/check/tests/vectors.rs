@@ -6,7 +6,7 @@ use std::path::{Path, PathBuf};
 use check::implementation::{Implementation, Operation, LIBRARY, SECOND};
 use check::sample::Arguments;
 use check::second;
-use zimgurav::{read, Counts, Currents, Found, Outcome, Refusal};
+use zimgurav::{read, Counts, Currents, Found, Outcome, Refusal, Word};
 
 /// The vector files, and how many calls of each operation each of them holds.
 const FILES: [(&str, usize); 5] = [
@@ -176,7 +176,7 @@ fn outcome(word: &str) -> Outcome {
 }
 
 /// As many words as the decimal number says, each as it is before a call.
-fn unused_words(length: &str) -> Vec<u32> {
+fn unused_words(length: &str) -> Vec<Word> {
     vec![0xeeee_eeee; decimal(length) as usize]
 }
 
@@ -212,7 +212,7 @@ fn resistances(word: &str) -> Vec<u16> {
 }
 
 /// The hash of the sheet's words as bytes, low byte first.
-fn sheet_hash(sheet: &[u32]) -> String {
+fn sheet_hash(sheet: &[Word]) -> String {
     hash(sheet.iter().flat_map(|word| word.to_le_bytes()))
 }
 
