@@ -1,10 +1,11 @@
-/* Zimgurav: proved ceilings on the supply current of a gate block.
+/* Zimgurav: proved ceilings on the supply current of a gate block. REFERENCE.md says what all of it means.
  *
  * The library, libzimgurav.a, is for x86-64. Every value of every argument is accepted or refused; none is undefined
  * behaviour, as long as the caller keeps to the following.
  *
  * - A slice is a pointer and a length, which counts elements, not bytes. The pointer is good for that many elements.
- *   Pointers are aligned for their types and not null, also where the length is 0; then nothing is read or written.
+ *   Pointers are aligned for their types and not null. That holds where the length is 0 too, though nothing is then
+ *   read or written through the pointer.
  * - What a pointer that is not const points to, the answer among them, overlaps nothing else that the call is lent.
  *   What is only read may overlap. What is lent to be written may hold anything before.
  * - Until the call returns, no other thread writes what it is lent, or reads what is lent to be written.
@@ -23,17 +24,17 @@
  *   byte 1         contact, 0 to 15
  *   byte 2         delay in ticks, 1 to 63
  *   byte 3         how many pins are used: 1 for NOT and BUF, 2 to 4 for the other gates
- *   bytes 4 to 11  the nets of the four pins, each below the record's own; 0 where unused
+ *   bytes 4 to 11  the nets of the four pins, each below the record's own; 0 where unused, and a used 0 is net 0
  *   bytes 12, 13   rise and fall of a pulse in ticks, each 1 to 127
- *   bytes 14 to 17 peaks of the pulses for lh and for hl, in microamperes
+ *   bytes 14 to 17 peaks of the pulses for lh and, after it, for hl, in microamperes
  *   byte 18        of an input the excitations that it is allowed, a sum of 1 (l), 2 (h), 4 (hl), 8 (lh); of a gate 0
  *   byte 19        0
  *
- * Inputs come before gates, and their other bytes are 0. The arrival of a net is 0 for an input, and for a gate the
+ * Inputs come before gates, and all their bytes but 0 and 18 are 0. The arrival of a net is 0 for an input, and for a gate the
  * greatest arrival of its pins plus its delay.
  */
-#ifndef ZIMGURAV_H
-#define ZIMGURAV_H
+#ifndef ZIMGURAV_HEADER
+#define ZIMGURAV_HEADER
 
 #include <stddef.h>
 #include <stdint.h>
@@ -43,7 +44,7 @@ extern "C" {
 #endif
 
 /* The version of the calls. It goes up with every change of what a call takes, answers or writes: two builds of one
- * version give the same answers and the same sheets. */
+ * version give the same answers, sheets, patterns and stores. */
 #define ZIMGURAV_VERSION 1
 
 /* The version of the linked library, which has to be ZIMGURAV_VERSION. */
@@ -74,6 +75,30 @@ typedef uint32_t zimgurav_word;
 
 /* The least bytes of the case store for such a budget. */
 #define ZIMGURAV_STORE_BYTES(budget) ((size_t)ZIMGURAV_CASE_BYTES * (1 + 3 * (size_t)(budget)))
+
+/* What a net is: byte 0 of a record. */
+enum zimgurav_kind {
+    ZIMGURAV_INPUT = 1,
+    ZIMGURAV_AND = 2,
+    ZIMGURAV_NAND = 3,
+    ZIMGURAV_OR = 4,
+    ZIMGURAV_NOR = 5,
+    ZIMGURAV_XOR = 6,
+    ZIMGURAV_XNOR = 7,
+    ZIMGURAV_NOT = 8,
+    ZIMGURAV_BUF = 9
+};
+
+/* What a net does at a tick: of an input, a byte of a pattern. */
+enum zimgurav_excitation {
+    ZIMGURAV_L = 0,  /* stays low */
+    ZIMGURAV_H = 1,  /* stays high */
+    ZIMGURAV_HL = 2, /* falls */
+    ZIMGURAV_LH = 3  /* rises */
+};
+
+/* The set with this excitation alone. The set of several is the sum of theirs. */
+#define ZIMGURAV_SET(excitation) (1 << (excitation))
 
 /* The refusals, by their numbers. Of several that apply the lowest is answered, but of 4 to 10 that of the lowest net.
  * The place is 0 where none is named. */
@@ -132,20 +157,20 @@ void zimgurav_read(
     uint64_t answer[ZIMGURAV_ANSWER_NUMBERS]);
 
 /* Writes a ceiling on the current of each contact at each tick into the sheet. Refusals 1 to 12 and 15.
- * Accepted: answer[1] drop in nanovolts, answer[2] a tick after which every row of the sheet is 0.
+ * Accepted: answer[1] drop in nanovolts, answer[2] the quiet tick, after which every row of the sheet is 0.
  */
 void zimgurav_envelope(
     const uint8_t *file, size_t file_length,    /* the block file */
     uint64_t hop_limit,                         /* the most runs that a gate's sets keep for an excitation */
-    const uint16_t *table, size_t table_length, /* for each bus node the resistances to the contacts, in milliohms */
+    const uint16_t *table, size_t table_length, /* 16 resistances in milliohms for each bus node; 16 for one node */
     zimgurav_word *sheet, size_t sheet_length,  /* ZIMGURAV_SHEET_WORDS */
     uint8_t *work, size_t work_length,          /* at least ZIMGURAV_WORK_BYTES; means nothing after an accepted call */
     uint64_t answer[ZIMGURAV_ANSWER_NUMBERS]);
 
 /* Writes the current of each contact at each tick under one pattern into the sheet. Refusals 1 to 10, 12, 15 and 16.
- * Accepted: answer[1] drop in nanovolts, answer[2] a tick after which every row of the sheet is 0.
+ * Accepted: answer[1] drop in nanovolts, answer[2] the quiet tick, after which every row of the sheet is 0.
  *
- * Byte i of a pattern is the excitation of input net i: 0 l, 1 h, 2 hl, 3 lh. Bytes past the inputs are not read.
+ * Byte i of a pattern is the excitation of input net i. Bytes past the inputs are not read.
  */
 void zimgurav_simulate(
     const uint8_t *file, size_t file_length,       /* the block file */

@@ -8,6 +8,8 @@
 //! that any number of threads may call at once. It calls nothing but `memcpy` and `memset`. A call
 //! takes less than [`STACK_BYTES`] of stack.
 
+pub mod excitation;
+pub mod kind;
 pub mod raw;
 pub mod refused;
 mod sizes;

@@ -3,7 +3,7 @@
 /// The version of the calls.
 ///
 /// It goes up with every change of what a call takes, answers or writes: two builds of one version
-/// give the same answers and the same sheets. [`version`](crate::version) is that of the linked
+/// give the same answers, sheets, patterns and stores. [`version`](crate::version) is that of the linked
 /// library, which has to be this one.
 pub const VERSION: u64 = 1;
 

@@ -72,7 +72,7 @@ fn search_numbers(answer: SearchAnswer) -> [u64; 8]
 }
 
 // The version of these calls. It goes up with every change of what a call takes, answers or writes, so that two builds of one version
-// give the same answers and the same sheets.
+// give the same answers, sheets, patterns and stores.
 #[no_mangle]
 pub extern "C" fn zimgurav_version() -> u64
     ensures { λ r. ⌜ r ≡ version ⌝ }

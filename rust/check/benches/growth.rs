@@ -3,9 +3,9 @@
 //! the second implementation's time.
 
 use check::implementation::Implementation;
-use check::kind::INPUT;
 use check::measure::{compare_sizes, full_blocks, Axis, Turns};
 use check::sample::{Arguments, Record};
+use zimgurav::kind::INPUT;
 
 /// The budget of the searches along every axis but its own.
 const BUDGET: u64 = 2;

@@ -3,10 +3,10 @@
 use std::hint::black_box;
 use std::time::Duration;
 
-use check::kind::{BUF, NOT};
 use check::measure::{median, ratio, thread_time};
 use check::sample::{gate, input, Random, Record, Shape};
 use check::second;
+use zimgurav::kind::{BUF, NOT};
 use zimgurav::{read, Counts, Refusal};
 
 const ROUNDS: usize = 501;

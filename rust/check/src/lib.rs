@@ -3,9 +3,7 @@
 pub mod agreement;
 pub mod comparison;
 pub mod implementation;
-pub mod kind;
 pub mod measure;
-pub mod pattern;
 pub mod repository;
 pub mod sample;
 pub mod second;

@@ -4,8 +4,8 @@
 use std::fmt::Debug;
 
 use check::implementation::{Implementation, Operation, LIBRARY, SECOND};
-use check::kind::{AND, BUF, NOT};
 use check::sample::{drawing, gate, input, Arguments, Record};
+use zimgurav::kind::{AND, BUF, NOT};
 use zimgurav::{
     raw, store_bytes, work_bytes, Currents, Found, Refusal, ANSWER_NUMBERS, CASE_BYTES, CONTACTS,
     LEAST_RATIO, MOST_BUDGET, MOST_HOPS, MOST_NODES, MOST_RATIO, PATTERN_BYTES, RECORD_BYTES,

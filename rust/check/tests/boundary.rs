@@ -1,5 +1,5 @@
-//! What the header and the wrapper say of the calls beside what they answer: the version, the sizes and
-//! the refusals, in C as in Rust, and calls from many threads at once.
+//! What the header and the wrapper say of the calls beside what they answer: the version, the sizes, the
+//! kinds, the excitations and the refusals, in C as in Rust, and calls from many threads at once.
 
 use std::thread;
 
@@ -51,6 +51,35 @@ fn sizes() {
     defined("MOST_BUDGET", zimgurav::MOST_BUDGET);
     let word = zimgurav::Word::BITS;
     assert!(header().contains(&format!("typedef uint{word}_t zimgurav_word;")));
+}
+
+#[test]
+fn kinds_and_excitations() {
+    use zimgurav::{excitation, kind};
+    let header = header();
+    for (name, number) in [
+        ("INPUT", kind::INPUT),
+        ("AND", kind::AND),
+        ("NAND", kind::NAND),
+        ("OR", kind::OR),
+        ("NOR", kind::NOR),
+        ("XOR", kind::XOR),
+        ("XNOR", kind::XNOR),
+        ("NOT", kind::NOT),
+        ("BUF", kind::BUF),
+        ("L", excitation::L),
+        ("H", excitation::H),
+        ("HL", excitation::HL),
+        ("LH", excitation::LH),
+    ] {
+        let words = header.split([',', ' ']).collect::<Vec<_>>();
+        let (name, number) = (format!("ZIMGURAV_{name}"), number.to_string());
+        let defined = |three: &[&str]| *three == [&name, "=", &number];
+        assert!(words.windows(3).any(defined), "{name} = {number}");
+    }
+    let sets = [excitation::L, excitation::H, excitation::HL, excitation::LH].map(excitation::set);
+    assert_eq!(sets, [1, 2, 4, 8]);
+    assert!(header.contains("#define ZIMGURAV_SET(excitation) (1 << (excitation))"));
 }
 
 mod refusals {

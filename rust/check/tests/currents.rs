@@ -3,11 +3,11 @@
 //! library and the second implementation must give them.
 
 use check::implementation::{Implementation, Operation, LIBRARY, SECOND};
-use check::kind::{AND, BUF, NAND, NOR, NOT, OR, XNOR, XOR};
-use check::pattern::{H, HL, L, LH};
 use check::sample::{
     self, drawing, gate, input, patterns, silent, Arguments, Random, Record, Shape,
 };
+use zimgurav::excitation::{H, HL, L, LH};
+use zimgurav::kind::{AND, BUF, NAND, NOR, NOT, OR, XNOR, XOR};
 use zimgurav::{work_bytes, Currents, Refusal, Word, RECORD_BYTES, ROW_TICKS, SHEET_WORDS};
 
 /// Checks the drop, the quiet tick and every word of the sheet. A row is written from tick 0 and is

@@ -13,10 +13,10 @@ use std::thread;
 use std::time::{Duration, Instant};
 
 use check::implementation::SECOND;
-use check::kind::{AND, BUF, NOT};
-use check::pattern::{H, HL, L, LH};
 use check::sample::{damage, gate, input, peaks, Arguments, Random, Record, Shape};
 use check::second;
+use zimgurav::excitation::{H, HL, L, LH};
+use zimgurav::kind::{AND, BUF, NOT};
 
 /// The most bytes that the program reads: 256 records.
 const MOST_BYTES: usize = 5_120;

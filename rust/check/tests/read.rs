@@ -1,9 +1,9 @@
 //! Read at the edges of every check. The expected answers are written from document 01, and both
 //! the library and the second implementation must give them.
 
-use check::kind::{AND, BUF, INPUT, NAND, NOT, XNOR};
 use check::sample::{self, gate, input, Record};
 use check::second;
+use zimgurav::kind::{AND, BUF, INPUT, NAND, NOT, XNOR};
 use zimgurav::{raw, read, Counts, Refusal, ANSWER_NUMBERS};
 
 #[track_caller]

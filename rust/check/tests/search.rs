@@ -4,9 +4,9 @@
 
 use check::agreement::Searched;
 use check::implementation::{Implementation, LIBRARY, SECOND};
-use check::kind::{AND, BUF, INPUT, NOT, XOR};
-use check::pattern::{H, HL, L, LH};
 use check::sample::{self, gate, input, patterns, peaks, silent, Arguments, Random, Record, Shape};
+use zimgurav::excitation::{H, HL, L, LH};
+use zimgurav::kind::{AND, BUF, INPUT, NOT, XOR};
 use zimgurav::{Found, Outcome, Word};
 
 /// The cases in a store: the sets of each one's inputs, and its upper number.

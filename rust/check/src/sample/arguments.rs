@@ -1,7 +1,7 @@
 //! The arguments of Envelope, Simulate and Search.
 
 use super::{Random, Record};
-use crate::kind::INPUT;
+use zimgurav::kind::INPUT;
 use zimgurav::{store_bytes, work_bytes, Word, CONTACTS, MOST_NODES, PATTERN_BYTES, SHEET_WORDS};
 
 /// What a word of the sheet holds before a call.

@@ -1,7 +1,7 @@
 //! Records and random valid blocks.
 
 use super::Random;
-use crate::kind::{AND, BUF, INPUT, NAND, NOT, XOR};
+use zimgurav::kind::{AND, BUF, INPUT, NAND, NOT, XOR};
 use zimgurav::RECORD_BYTES;
 
 /// The bytes of a net.

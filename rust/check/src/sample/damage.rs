@@ -1,7 +1,7 @@
 //! Damage to block files and to the other arguments of a call.
 
 use super::{Arguments, Random};
-use crate::kind::INPUT;
+use zimgurav::kind::INPUT;
 use zimgurav::{store_bytes, PATTERN_BYTES, RECORD_BYTES, SHEET_WORDS};
 
 /// Values at the edges of the fields' ranges and just past them.

@@ -4,7 +4,7 @@
 //! A record is 20 bytes. Nothing is checked here: a field holds whatever its
 //! bytes say, and the refusals are left to the reader.
 
-use crate::kind;
+use zimgurav::kind;
 
 /// The length of a record in bytes.
 pub const RECORD_BYTES: usize = 20;
@@ -120,8 +120,8 @@ pub fn cone(net: usize, records: &[Record]) -> usize {
 #[cfg(test)]
 mod tests {
     use super::*;
-    use crate::kind::{AND, BUF, NOT};
     use crate::sample::{gate, input};
+    use zimgurav::kind::{AND, BUF, NOT};
 
     /// Block S: the cone of net 0 is 2.
     #[test]

@@ -1,6 +1,6 @@
 //! Excitations and uncertainty sets, and what gates make of them.
 
-use crate::kind;
+use zimgurav::kind;
 
 /// An excitation is a pair of levels, before and after: l = (0,0), h = (1,1),
 /// hl = (1,0), lh = (0,1).

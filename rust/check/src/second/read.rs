@@ -6,7 +6,7 @@
 //! whether its refusal applies; the functions stand in the order of document 01.
 
 use super::block::{arrival, Record, RECORD_BYTES};
-use crate::kind;
+use zimgurav::kind;
 use zimgurav::{Counts, Refusal};
 
 /// The most records a block may have.

@@ -1,9 +1,9 @@
 //! Random calls, each short enough for the second implementation.
 
-use crate::kind::INPUT;
 use crate::sample::{
     block_with_a_cap, block_with_gaps, damage, noise, spoil, Arguments, Random, Record, Shape,
 };
+use zimgurav::kind::INPUT;
 use zimgurav::{store_bytes, MOST_BUDGET, RECORD_BYTES};
 
 /// The most records that the searches of one call evaluate, in all their cases: about half a second

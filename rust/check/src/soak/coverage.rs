@@ -3,8 +3,8 @@
 use std::fmt;
 use std::time::Duration;
 
-use crate::kind::INPUT;
 use crate::sample::Arguments;
+use zimgurav::kind::INPUT;
 use zimgurav::{Counts, Found, Outcome, Refusal, CONTACTS, RECORD_BYTES};
 
 /// The operations, in the order in which their answers are counted.

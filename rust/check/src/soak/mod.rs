@@ -12,11 +12,11 @@ use std::time::{Duration, Instant};
 use crate::agreement::Searched;
 use crate::comparison::compare;
 use crate::implementation::Implementation;
-use crate::kind::INPUT;
 use crate::sample::{allowed, Arguments, Random};
 use crate::second;
 pub use coverage::Coverage;
 use coverage::OPERATIONS;
+use zimgurav::kind::INPUT;
 use zimgurav::RECORD_BYTES;
 
 /// How many random patterns are held against each accepted search.

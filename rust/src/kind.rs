@@ -1,4 +1,4 @@
-//! Byte 0 of a record: what drives the net.
+//! What a net is: byte 0 of a record.
 
 pub const INPUT: u8 = 1;
 pub const AND: u8 = 2;
