@@ -1,6 +1,6 @@
 -- Laws of texts.
 -- Assumes nothing.
-use Prim.Native.Nat.{ℕ, suc, _+_, _≤_, _<_}
+use Prim.Native.Nat.{ℕ, suc, _+_, _<_}
 use mathlib.Core.Bool.{cond}
 use mathlib.Core.List.{List, [], _∷_, _++_, append-assoc}
 use mathlib.Core.Path.{_≡_, ap, sym, _∙_}
@@ -54,16 +54,16 @@ unfolding line
 line-begun text word next rest e = ap (λ t. t ++ line (next ∷ rest)) e ∙ append-assoc word (32 ∷ []) (line (next ∷ rest))
 
 -- The same for words that are listed, of which some are written.
-pub record Written (words : List (List ℕ)) (k : ℕ) (text : Text) (all : List ℕ) : Type 0 where
+pub record WordsWritten (words : List (List ℕ)) (k : ℕ) (text : Text) (all : List ℕ) : Type 0 where
   pub going : k < length words → written text ++ line (drop k words) ≡ all
   pub ended : k ≡ length words → written text ≡ all
 
-module _ {words : List (List ℕ)} {k end : ℕ} {text text′ : Text} {all : List ℕ} (h : k < length words) (so-far : Written words k text all)
+module _ {words : List (List ℕ)} {k end : ℕ} {text text′ : Text} {all : List ℕ} (h : k < length words) (so-far : WordsWritten words k text all)
     (added : Added text (getD words k [] ++ (end ∷ [])) text′) (separated : end ≡ cond (ltb (k + 1) (length words)) 32 10) where
   first : drop k words ≡ getD words k [] ∷ drop (suc k) words
   first = drop-cons words k [] h
 
-  pub written-next : Written words (k + 1) text′ all
+  pub written-next : WordsWritten words (k + 1) text′ all
   written-next = record {
     going = λ more. (
         let second : drop (suc k) words ≡ getD words (suc k) [] ∷ drop (suc (suc k)) words = drop-cons words (suc k) [] (omega arith) in

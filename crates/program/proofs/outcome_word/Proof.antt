@@ -1,11 +1,10 @@
 -- `program::outcome_word` meets its contract.
 -- Assumes nothing.
 use mathlib.Core.List.{_∷_, [], _++_}
-use mathlib.Core.Path.{_≡_, ap, sym, _∙_}
+use mathlib.Core.Path.{ap, _∙_}
 use native.Mathlib.Omega.{arith}
 use borrow.Author.Needs.{needs}
 use Rattle.program.specs.Lines.{ascii}
-use Rattle.program.specs.Program.{outcomeWord}
 use Rattle.program.proofs.outcome_word.Statement.{statement}
 use Rattle.program.proofs.outcome_word.Tie as tie
 

@@ -2,13 +2,12 @@
 -- Assumes nothing.
 use Prim.Native.Nat.{_+_, _*_, _-_, _≤_}
 use mathlib.Core.List.{_++_}
-use mathlib.Core.Path.{_≡_}
 use native.Mathlib.Omega.{arith}
 use borrow.Author.Needs.{needs}
 use Rattle.excitation.specs.Excitation.{patternOf}
 use Rattle.program.specs.Lines.{line, written}
 use Rattle.program.specs.Program.{patternWords}
-use Rattle.program.proofs.Texts.{Written}
+use Rattle.program.proofs.Texts.{WordsWritten}
 use Rattle.program.proofs.Patterns.{pattern-begun, pattern-next, pattern-ended}
 use Rattle.program.proofs.pattern_line.Statement.{statement}
 use Rattle.program.proofs.pattern_line.Tie as tie
@@ -16,7 +15,7 @@ use Rattle.program.proofs.pattern_line.Tie as tie
 abbrev Inv-loop : tie.InvT-loop
 Inv-loop pattern inputs text₀ net₀ text net =
     let words = patternWords (patternOf inputs pattern) in
-    (net ≤ inputs) × (text .used ≤ text₀ .used + 3 * net) × Written words net text (written text₀ ++ line words)
+    (net ≤ inputs) × (text .used ≤ text₀ .used + 3 * net) × WordsWritten words net text (written text₀ ++ line words)
 
 abbrev μ-loop : tie.MeasureT-loop
 μ-loop pattern inputs text₀ net₀ text net = inputs - net

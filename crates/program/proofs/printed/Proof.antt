@@ -1,6 +1,6 @@
 -- `program::printed` meets its contract.
 -- Assumes nothing.
-use mathlib.Core.Path.{_≡_, sym, _∙_}
+use mathlib.Core.Path.{sym, _∙_}
 use borrow.Author.Needs.{needs}
 use Rattle.operation.proofs.Operations.{file-accepted}
 use Rattle.program.proofs.Searches.{too-long, not-too-long, read-refused}

@@ -1,12 +1,8 @@
 -- `program::Text::excitation` meets its contract.
 -- Assumes nothing.
-use mathlib.Core.List.{_∷_, [], _++_}
-use mathlib.Core.Path.{_≡_, refl, ap, subst, sym, _∙_}
-use native.Mathlib.Omega.{arith}
 use borrow.Author.Needs.{needs}
 use Rattle.excitation.specs.Excitation.{excitationOf}
 use Rattle.excitation.proofs.Bytes.{byte-other}
-use Rattle.program.specs.Lines.{Added}
 use Rattle.program.specs.Program.{excitationWord}
 use Rattle.program.proofs.Text.excitation.Statement.{statement}
 use Rattle.program.proofs.Text.excitation.Tie as tie

@@ -1,7 +1,7 @@
 -- `program::Text::number` meets its contract.
 -- Assumes nothing.
 use mathlib.Core.List.{_∷_, [], _++_}
-use mathlib.Core.Path.{_≡_, ap, subst, sym, _∙_}
+use mathlib.Core.Path.{subst, _∙_}
 use native.Mathlib.Omega.{arith}
 use lib.ListN.{take, length-append, length-take}
 use borrow.Author.Needs.{needs}
