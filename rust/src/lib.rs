@@ -158,8 +158,8 @@ pub fn envelope(
 /// 10, 12, 15 and 16.
 ///
 /// - `table`, `sheet`, `work`: as for [`envelope`].
-/// - `pattern`: [`PATTERN_BYTES`], one for each input net, 0 l, 1 h, 2 hl, 3 lh; those past the
-///   inputs are not read.
+/// - `pattern`: [`PATTERN_BYTES`], one for each input net, as [`excitation`] names them; those past
+///   the inputs are not read.
 pub fn simulate(
     file: &[u8],
     table: &[u16],

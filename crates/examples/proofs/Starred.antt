@@ -34,6 +34,7 @@ use Rattle.examples.specs.Starred.{tableS, searching, finding, SearchExa
 use Rattle.search.specs.Search.{searchOf, foundBy, argumentChecks, searchVerdict}
 use Rattle.program.specs.Lines.{ascii, digits, decimal, line}
 use Rattle.program.specs.Program.{programArguments, excitationWord, searchText, programText}
+use Rattle.program.proofs.Searches.{programChecks}
 
 -- Block F, and block S with no split and as the program searches it.
 
@@ -54,15 +55,13 @@ block-S = (refl, refl)
 
 -- The program on block S: it passes all checks, and what is found is printed.
 
-arguments-pass : Accepted ≡ verdict (argumentChecks 3 10 16 1000 200 8192 64 40960 43272)
-unfolding verdict argumentChecks within
+arguments-pass : Accepted ≡ verdict (programChecks blockS 3 1)
+unfolding verdict argumentChecks within programArguments
 arguments-pass = refl
 
 passes-S : searchVerdict (programArguments blockS) ≡ Accepted
 unfolding searchVerdict programArguments
-passes-S =
-    by-arguments blockS (λ nets inputs. argumentChecks nets 10 16 1000 200 8192 64 40960 43272) (λ v. v ≡ Accepted) {read = readOf blockS} refl
-    (block-examples .read-S) arguments-pass refl refl
+passes-S = by-arguments blockS (programChecks blockS) (λ v. v ≡ Accepted) {read = readOf blockS} refl (block-examples .read-S) arguments-pass refl refl
 
 found-S : foundBy (searchOf (programArguments blockS)) ≡ finding Exact 10 10 1 4
 unfolding programArguments searchOf

@@ -13,7 +13,7 @@ use Rattle.excitation.specs.Excitation.{patternOf}
 use Rattle.block.specs.Block.{inputCount}
 use Rattle.block.specs.Record.{File}
 use Rattle.block.specs.Refusals.{readOf}
-use Rattle.block.specs.Verdict.{refusal}
+use Rattle.block.specs.Verdict.{Check, refusal}
 use Rattle.block.specs.declared.ReadAnswer.{ReadAnswer}
 use Rattle.block.specs.declared.ReadAnswer.the-variants as read-answer
 use Rattle.block.specs.declared.Refusal.{Refusal}
@@ -46,12 +46,19 @@ read-enough file =
     sym (too-long (take (mostBytes + 1) file) cut) ∙ too-long file h))
     (λ e. ap programText (take-all (mostBytes + 1) file (let h = ltb-false mostBytes (length file) e in omega arith)))
 
+-- The checks of what the program searches with, beside the file.
+abbrev pub programChecks : File → ℕ → ℕ → List Check
+programChecks file nets inputs =
+    let given = programArguments file in
+    argumentChecks nets (given .hops) (length (given .table)) (given .ratio) (given .budget) (length (given .sheet)) (length (given .pattern))
+    (length (given .work)) (length (given .store))
+
 module _ (file : File) where
   -- What Read refuses, Search refuses.
   pub read-refused : {read : ReadAnswer} {r : Refusal} → read ≡ readOf file → read ≡ read-answer.Refused r → refusalText r ≡ searchText file
   unfolding searchText searchVerdict programArguments
   read-refused {read} {r} is told =
-      by-file file (λ nets inputs. argumentChecks nets 10 16 1000 200 8192 64 40960 43272)
+      by-file file (programChecks file)
       (λ v. refusalText r ≡ answerText (searchAnswerAfter v (searchOf (programArguments file))) (searchOf (programArguments file) .state .best .pattern))
       is told refl
 

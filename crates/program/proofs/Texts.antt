@@ -1,6 +1,6 @@
 -- Laws of texts.
 -- Assumes nothing.
-use Prim.Native.Nat.{ℕ, suc, _+_, _<_}
+use Prim.Native.Nat.{ℕ, suc, _+_, _≤_, _<_}
 use mathlib.Core.Bool.{cond}
 use mathlib.Core.List.{List, [], _∷_, _++_, append-assoc}
 use mathlib.Core.Path.{_≡_, ap, sym, _∙_}
@@ -8,31 +8,25 @@ use native.Mathlib.Numerals.{add-one}
 use native.Mathlib.Omega.{arith}
 use lib.Dec.{ltb}
 use lib.ListN.{length, getD, take, drop, set}
-use lib.Seq.{take-length, take-suc, take-suc-set, drop-cons, drop-length}
+use lib.Seq.{take-length, take-suc-set, drop-cons, drop-length, paste, take-paste}
 use borrow.Author.Tests.{lt-ltb, le-ltb}
 use Rattle.program.specs.declared.Text.{Text}
 use Rattle.program.specs.Lines.{line, written, Added}
 
--- One byte more in a buffer of which the first k bytes are `text`.
-pub byte-put : (bytes text : List ℕ) (k b : ℕ) → k < length bytes → take k bytes ≡ text → take (k + 1) (set bytes k b) ≡ text ++ (b ∷ [])
-byte-put bytes text k b h e = rw (add-one k) (take-suc-set bytes k b h) ∙ ap (λ t. t ++ (b ∷ [])) e
+-- A word pasted into a buffer, and the byte after it.
+pub word-ended : (given bytes word : List ℕ) (from i end : ℕ) → from ≤ length given → from + i < length bytes → i ≡ length word
+    → bytes ≡ paste given from word i → take (from + i + 1) (set bytes (from + i) end) ≡ take from given ++ (word ++ (end ∷ []))
+word-ended given bytes word from i end room h all e =
+    rw (add-one (from + i)) (take-suc-set bytes (from + i) end h)
+    ∙ ap (λ t. t ++ (end ∷ [])) (ap (take (from + i)) e ∙ take-paste given from word i room (omega arith))
+    ∙ append-assoc (take from given) (take i word) (end ∷ [])
+    ∙ ap (λ w. take from given ++ (w ++ (end ∷ []))) (ap (λ n. take n word) all ∙ take-length word)
 
--- One byte more of a word.
-pub word-put : (bytes text word : List ℕ) (from i : ℕ) → from + i < length bytes → i < length word → take (from + i) bytes ≡ text ++ take i word
-    → take (from + (i + 1)) (set bytes (from + i) (getD word i 0)) ≡ text ++ take (i + 1) word
-word-put bytes text word from i h k e =
-    let next : from + (i + 1) ≡ from + i + 1 = omega arith in
-    rw next (byte-put bytes (text ++ take i word) (from + i) (getD word i 0) h e)
-    ∙ append-assoc text (take i word) (getD word i 0 ∷ [])
-    ∙ ap (λ t. text ++ t) (sym (take-suc word i 0 k) ∙ ap (λ n. take n word) (sym (add-one i)))
-
--- The byte after a word.
-pub word-ended : (bytes text word : List ℕ) (from i end : ℕ) → from + i < length bytes → i ≡ length word → take (from + i) bytes ≡ text ++ take i word
-    → take (from + i + 1) (set bytes (from + i) end) ≡ text ++ (word ++ (end ∷ []))
-word-ended bytes text word from i end h all e =
-    byte-put bytes (text ++ take i word) (from + i) end h e
-    ∙ append-assoc text (take i word) (end ∷ [])
-    ∙ ap (λ w. text ++ (w ++ (end ∷ []))) (ap (λ n. take n word) all ∙ take-length word)
+-- A line's first word, with the blank after it.
+pub line-begun : (text : Text) (word next : List ℕ) (rest : List (List ℕ)) → written text ≡ word ++ (32 ∷ [])
+    → written text ++ line (next ∷ rest) ≡ line (word ∷ next ∷ rest)
+unfolding line
+line-begun text word next rest e = ap (λ t. t ++ line (next ∷ rest)) e ∙ append-assoc word (32 ∷ []) (line (next ∷ rest))
 
 -- A line, word by word: what is written and what is left of the line make up `all`.
 
@@ -46,12 +40,6 @@ pub word-last : {text text′ : Text} (word : List ℕ) {all : List ℕ} → Add
     → written text′ ≡ all
 unfolding line
 word-last word added so-far = added .bytes ∙ so-far
-
--- A line's first word, with the blank after it.
-pub line-begun : (text : Text) (word next : List ℕ) (rest : List (List ℕ)) → written text ≡ word ++ (32 ∷ [])
-    → written text ++ line (next ∷ rest) ≡ line (word ∷ next ∷ rest)
-unfolding line
-line-begun text word next rest e = ap (λ t. t ++ line (next ∷ rest)) e ∙ append-assoc word (32 ∷ []) (line (next ∷ rest))
 
 -- The same for words that are listed, of which some are written.
 pub record WordsWritten (words : List (List ℕ)) (k : ℕ) (text : Text) (all : List ℕ) : Type 0 where

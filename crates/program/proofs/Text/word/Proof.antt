@@ -1,26 +1,27 @@
--- `program::Text::word` meets its contract. The loop's invariant: the text, and as much of the word as was copied.
+-- `program::Text::word` meets its contract. The loop's invariant: as much of the word as was copied stands after the text.
 -- Assumes nothing.
 use Prim.Native.Nat.{_+_, _-_, _≤_, _<_}
-use mathlib.Core.List.{_++_, append-nil}
-use mathlib.Core.Path.{_≡_}
-use native.Mathlib.Nat.{add-zero}
+use mathlib.Core.Path.{_≡_, ap, sym, _∙_}
+use native.Mathlib.Numerals.{add-one}
 use native.Mathlib.Omega.{arith}
-use lib.ListN.{length, take, length-set, length-append}
+use lib.ListN.{length, getD, set, length-set, length-append}
+use lib.Seq.{paste, paste-zero, paste-suc}
 use borrow.Author.Needs.{needs}
-use Rattle.program.specs.Lines.{written}
-use Rattle.program.proofs.Texts.{word-put, word-ended}
+use Rattle.program.proofs.Texts.{word-ended}
 use Rattle.program.proofs.Text.word.Statement.{statement}
 use Rattle.program.proofs.Text.word.Tie as tie
 
 abbrev Inv-loop : tie.InvT-loop
 Inv-loop word end bytes₀ from i₀ bytes i =
-    (i ≤ length word) × (from + length word < 320) × (length bytes ≡ 320) × (take (from + i) bytes ≡ take from bytes₀ ++ take i word)
+    (i ≤ length word) × (from + length word < 320) × (length bytes₀ ≡ 320) × (length bytes ≡ 320) × (bytes ≡ paste bytes₀ from word i)
 
 abbrev μ-loop : tie.MeasureT-loop
 μ-loop word end bytes₀ from i₀ bytes i = length word - i
 
 loop-holds : tie.Need-loop-holds Inv-loop μ-loop
-loop-holds c = (search needs, search needs, search needs, rw (add-zero, append-nil))
+loop-holds c =
+    let given = c .before .args in
+    (search needs, search needs, search needs, search needs, paste-zero (given .self .bytes) (given .self .used) (given .word .now))
 
 shared-slice-read-bytes : tie.Need-shared-slice-read-bytes Inv-loop μ-loop
 shared-slice-read-bytes c = search needs
@@ -40,11 +41,15 @@ loop-less c = search needs
 loop-again : tie.Need-loop-again Inv-loop μ-loop
 loop-again c =
     let loop = c .before .before .loop in
-    let given = c .before .before .before .before .args in (
+    let given = c .before .before .before .before .args in
+    let byte = getD (given .word .now) (loop .i) 0 in (
       search needs,
       search needs,
-      simp length-set (loop .inv .2),
-      word-put (loop .bytes) (written (given .self)) (given .word .now) (given .self .used) (loop .i) (omega arith) (omega arith) (loop .inv .3),
+      loop .inv .2,
+      simp length-set (loop .inv .3),
+      ap (λ bytes. set bytes (given .self .used + loop .i) byte) (loop .inv .4)
+          ∙ paste-suc (given .self .bytes) (given .self .used) (given .word .now) (loop .i) 0 (omega arith) (omega arith)
+          ∙ ap (paste (given .self .bytes) (given .self .used) (given .word .now)) (sym (add-one (loop .i))),
     )
 
 add-bytes-2 : tie.Need-add-bytes-2 Inv-loop μ-loop
@@ -65,7 +70,7 @@ returns c =
     let given = c .before .before .before .args in
     let all : loop .i ≡ length (given .word .now) = omega arith in
     record {
-      bytes = word-ended (loop .bytes) (written (given .self)) (given .word .now) (given .self .used) (loop .i) (given .end) (omega arith) all (loop .inv .3);
+      bytes = word-ended (given .self .bytes) (loop .bytes) (given .word .now) (given .self .used) (loop .i) (given .end) (omega arith) (omega arith) all (loop .inv .4);
       used = simp length-append (omega arith);
     }
 
