@@ -30,9 +30,10 @@ use Rattle.operation.specs.declared.Outcome.the-variants.{Exact, Within, Spent}
 use Rattle.cases.specs.Case.{undecided, decided, firstAllowed, probe, evaluationOf, membersBelow, childrenBelow}
 use Rattle.cases.specs.Choice.{coneSizes, rankOf, rank, chosenInput}
 use Rattle.cases.specs.Search.{upperAt, setsAt, greatestUpper, nextSplit, placed, outcomeOf, better, bestOf, firstBest, madeUnder, firstState, nextChildren, split, outcomeAt, searchFrom, search}
+use Rattle.laws.specs.Ascii.{ascii}
 use Rattle.examples.specs.Starred.{tableS, searching, finding, SearchExamples, Starred}
 use Rattle.search.specs.Search.{searchOf, foundBy, argumentChecks, searchVerdict}
-use Rattle.program.specs.Lines.{ascii, digits, decimal, line}
+use Rattle.program.specs.Lines.{digits, decimal, line}
 use Rattle.program.specs.Program.{programArguments, excitationWord, searchText, programText}
 use Rattle.program.proofs.Searches.{programChecks}
 

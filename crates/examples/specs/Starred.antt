@@ -4,6 +4,7 @@ use Prim.Native.Nat.{ℕ}
 use mathlib.Core.List.{List, [], _∷_}
 use mathlib.Core.Path.{_≡_}
 use lib.ListN.{replicate}
+use Rattle.laws.specs.Ascii.{ascii}
 use Rattle.excitation.specs.Excitation.{lh}
 use Rattle.excitation.specs.Examples.{SetExamples}
 use Rattle.block.specs.Examples.{blockS, blockF, BlockExamples}
@@ -14,7 +15,6 @@ use Rattle.operation.specs.declared.Found.{Found}
 use Rattle.operation.specs.declared.Outcome.{Outcome}
 use Rattle.operation.specs.declared.Outcome.the-variants.{Exact, Within, Spent}
 use Rattle.search.specs.Search.{SearchArguments, searchOf, foundBy}
-use Rattle.program.specs.Lines.{ascii}
 use Rattle.program.specs.Program.{programText}
 
 -- One node: 16 resistances of 1.

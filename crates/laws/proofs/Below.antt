@@ -1,8 +1,8 @@
 -- Laws of what is defined over the numbers below n.
 -- Assumes nothing.
 use Prim.Native.Nat.{ℕ, zero, suc, _+_, _*_, _≤_, _<_, max}
-use mathlib.Core.Path.{_≡_, refl}
-use mathlib.Core.Bool.{Bool, true, false, cond}
+use mathlib.Core.Path.{_≡_, refl, sym}
+use mathlib.Core.Bool.{Bool, true, false, cond, _&&_, and-true, and-assoc}
 use mathlib.Core.Logic.{⊎-elim}
 use native.Mathlib.Nat.{not-suc-le-zero, eq-or-lt-of-le, le-of-suc-le-suc, mul-le-mul-right}
 use native.Mathlib.Numerals.{add-one}
@@ -38,6 +38,12 @@ sum-next n f = rw add-one refl
 pub count-next : (n : ℕ) (p : ℕ → Bool) → countBelow (n + 1) p ≡ countBelow n p + indicator (p n)
 unfolding countBelow
 count-next n p = rw add-one refl
+
+-- A test of the numbers below n + 1 by the first of them.
+pub all-first : (n : ℕ) (p : ℕ → Bool) → allBelow (suc n) p ≡ (p 0 && allBelow n (λ k. p (suc k)))
+unfolding allBelow
+all-first zero p = sym (and-true (p 0))
+all-first (suc n) p = rw (all-first n p) (and-assoc (p 0) (allBelow n (λ k. p (suc k))) (p (suc n)))
 
 -- A test that passes at every number below n passes at each.
 pub all-at : (n : ℕ) (p : ℕ → Bool) (k : ℕ) → allBelow n p ≡ true → k < n → p k ≡ true

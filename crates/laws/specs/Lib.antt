@@ -1,3 +1,4 @@
+pub mod Ascii
 pub mod Below
 pub mod Turn
 pub mod Rewritten

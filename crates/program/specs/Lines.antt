@@ -1,18 +1,11 @@
 -- Text as bytes: words, numbers and lines (for document 01, "Program").
 use Prim.Native.Nat.{ℕ, zero, suc, _+_, _/_, _%_, _≤_}
-use Prim.Native.Char.{code}
-use Prim.Native.String.{String, [] as end, _∷_ as _before_}
 use mathlib.Core.Bool.{true, false}
 use mathlib.Core.List.{List, [], _∷_, _++_}
 use mathlib.Core.Path.{_≡_}
 use lib.Dec.{ltb}
 use lib.ListN.{length, take}
 use Rattle.program.specs.declared.Text.{Text}
-
--- The bytes of a word in ASCII.
-abbrev pub ascii : String → List ℕ
-ascii end = []
-ascii (c before rest) = code c ∷ ascii rest
 
 -- In ASCII 48 to 57 are the digits, 32 is the blank, and 10 ends a line.
 

@@ -4,6 +4,7 @@ use mathlib.Core.Bool.{true, false, cond}
 use mathlib.Core.List.{List, [], _∷_, _++_, map}
 use lib.Dec.{ltb}
 use lib.ListN.{length, replicate}
+use Rattle.laws.specs.Ascii.{ascii}
 use Rattle.excitation.specs.declared.Excitation.{Excitation}
 use Rattle.block.specs.Record.{File}
 use Rattle.block.specs.Verdict.{refusal}
@@ -14,7 +15,7 @@ use Rattle.operation.specs.declared.Outcome.the-variants.{Exact, Within, Spent}
 use Rattle.operation.specs.declared.SearchAnswer.{SearchAnswer}
 use Rattle.operation.specs.declared.SearchAnswer.the-variants as answer
 use Rattle.search.specs.Search.{SearchArguments, searchOf, searchVerdict, searchAnswerAfter}
-use Rattle.program.specs.Lines.{ascii, decimal, line}
+use Rattle.program.specs.Lines.{decimal, line}
 
 -- Up to 256 records of 20 bytes.
 abbrev pub mostBytes : ℕ

@@ -4,7 +4,7 @@ use mathlib.Core.List.{_∷_, [], _++_}
 use mathlib.Core.Path.{ap, _∙_}
 use native.Mathlib.Omega.{arith}
 use borrow.Author.Needs.{needs}
-use Rattle.program.specs.Lines.{ascii}
+use Rattle.laws.specs.Ascii.{ascii}
 use Rattle.program.proofs.outcome_word.Statement.{statement}
 use Rattle.program.proofs.outcome_word.Tie as tie
 

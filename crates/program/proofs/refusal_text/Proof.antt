@@ -4,7 +4,8 @@ use mathlib.Core.List.{_∷_, [], _++_}
 use mathlib.Core.Path.{ap}
 use native.Mathlib.Omega.{arith}
 use borrow.Author.Needs.{needs}
-use Rattle.program.specs.Lines.{ascii, decimal, line}
+use Rattle.laws.specs.Ascii.{ascii}
+use Rattle.program.specs.Lines.{decimal, line}
 use Rattle.program.specs.Program.{refusalText}
 use Rattle.program.proofs.Texts.{word-next, word-last}
 use Rattle.program.proofs.refusal_text.Statement.{statement}
