@@ -42,7 +42,7 @@ place-by-count file net inputs counted =
     rw (all, counted) refl
 
 -- Whatever the kind, a pin count that fits it is 1 to 4.
-rule-bounds : (k : Kind) → (1 ≤ ruleOf k .least) × (ruleOf k .most ≤ 4)
+pub rule-bounds : (k : Kind) → (1 ≤ ruleOf k .least) × (ruleOf k .most ≤ 4)
 rule-bounds NONE = omega arith
 rule-bounds INPUT = omega arith
 rule-bounds AND = omega arith
