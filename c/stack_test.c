@@ -1,4 +1,5 @@
-/* Each call on a full block, on a stack of ZIMGURAV_STACK_BYTES with nothing below it: more would end the program.
+/* Each call on a full block, or on a text of one, on a stack of ZIMGURAV_STACK_BYTES with nothing below it: more would
+ * end the program.
  * Prints how much of the stack each call used; the first one's is with the dynamic linker's look-up of memset. */
 #define _GNU_SOURCE
 #include <stdlib.h>
@@ -10,12 +11,19 @@
 
 enum { NETS = ZIMGURAV_MOST_NETS, INPUTS = ZIMGURAV_MOST_INPUTS, BUDGET = 20, UNUSED = 0xEE };
 
+/* The longest line has five names of 16 letters, a kind word, and marks with the line's end. */
+enum { LINE = 5 * 16 + 4 + 7 };
+
 static uint8_t file[RECORD * NETS];
 static uint16_t table[CONTACTS * ZIMGURAV_MOST_NODES];
 static zimgurav_word sheet[WORDS];
 static uint8_t pattern[PATTERN];
 static uint8_t work[ZIMGURAV_WORK_BYTES(NETS)];
 static uint8_t store[ZIMGURAV_STORE_BYTES(BUDGET)];
+static char text[LINE * NETS];
+static size_t text_length;
+static uint8_t list[LIST];
+static uint8_t records[BLOCK];
 static uint64_t answer[NUMBERS];
 
 /* Gates of every kind and pin count, each fed by nets 64 to 127 before it, so that there are at most 15 in a row. */
@@ -51,6 +59,36 @@ static void make_block(void)
     }
 }
 
+/* Adds a name of 16 letters, which differs from that of another net in the last ones. */
+static void add_name(int net)
+{
+    text_length += (size_t)sprintf(text + text_length, "net%013d", net);
+}
+
+/* The block's text, with every name as long as it can be. */
+static void make_text(void)
+{
+    static const char *const words[] = {"AND", "NAND", "OR", "NOR", "XOR", "XNOR", "NOT", "BUF"};
+
+    for (int net = 0; net < NETS; net++) {
+        const uint8_t *const record = &file[RECORD * net];
+
+        if (record[0] == ZIMGURAV_INPUT) {
+            text_length += (size_t)sprintf(text + text_length, "INPUT(");
+            add_name(net);
+        } else {
+            add_name(net);
+            text_length += (size_t)sprintf(text + text_length, "=%s(", words[record[0] - ZIMGURAV_AND]);
+        }
+        for (int pin = 0; pin < record[3]; pin++) {
+            text_length += (size_t)sprintf(text + text_length, pin == 0 ? "" : ",");
+            add_name(record[4 + 2 * pin] + 256 * record[5 + 2 * pin]);
+        }
+        text_length += (size_t)sprintf(text + text_length, ")\n");
+    }
+    memset(list, 1, sizeof list);
+}
+
 static void call_read(void)
 {
     zimgurav_read(file, sizeof file, answer);
@@ -72,6 +110,11 @@ static void call_search(void)
 {
     zimgurav_search(file, sizeof file, 2, table, sizeof table / sizeof *table, 1000, BUDGET, sheet, WORDS, pattern,
                     PATTERN, work, sizeof work, store, sizeof store, answer);
+}
+
+static void call_bench(void)
+{
+    zimgurav_bench((const uint8_t *)text, text_length, list, sizeof list, records, sizeof records, answer);
 }
 
 /* A stack with a page below it that cannot be read or written. */
@@ -116,14 +159,18 @@ static int check_call(const char *name, void (*call)(void), uint8_t *stack)
 int main(void)
 {
     const uint64_t counts[NUMBERS] = {0, NETS, INPUTS};
+    const uint64_t count[NUMBERS] = {0, NETS};
     uint8_t *const stack = make_stack();
     int wrong = 0;
 
     make_block();
+    make_text();
     wrong += check_call("search", call_search, stack);
     wrong += check_call("simulate", call_simulate, stack);
     wrong += check_call("envelope", call_envelope, stack);
     wrong += check_call("read", call_read, stack);
     wrong += check_numbers("read", answer, counts);
+    wrong += check_call("bench", call_bench, stack);
+    wrong += check_numbers("bench", answer, count);
     return wrong != 0;
 }

@@ -44,8 +44,8 @@ extern "C" {
 #endif
 
 /* The version of the calls. It goes up with every change of what a call takes, answers or writes: two builds of one
- * version give the same answers, sheets, patterns and stores. */
-#define ZIMGURAV_VERSION 1
+ * version give the same answers, sheets, patterns, stores and records. */
+#define ZIMGURAV_VERSION 2
 
 /* The version of the linked library, which has to be ZIMGURAV_VERSION. */
 uint64_t zimgurav_version(void);
@@ -54,6 +54,9 @@ uint64_t zimgurav_version(void);
 typedef uint32_t zimgurav_word;
 
 #define ZIMGURAV_RECORD_BYTES 20     /* bytes of a record of a block file */
+#define ZIMGURAV_BLOCK_BYTES 20480   /* least bytes of a record buffer: the records of the largest block */
+#define ZIMGURAV_LIST_ROW_BYTES 8    /* bytes of a row of a list: a kind's contact, delay, rise, fall and peaks */
+#define ZIMGURAV_LIST_BYTES 64       /* bytes of a list: a row for each kind of gate, AND first */
 #define ZIMGURAV_CONTACTS 16         /* contacts: rows of a sheet, and resistances of a bus node in a table */
 #define ZIMGURAV_ROW_TICKS 512       /* ticks of a row: its words */
 #define ZIMGURAV_SHEET_WORDS 8192    /* words of a sheet: its rows, contact 0 first */
@@ -100,14 +103,14 @@ enum zimgurav_excitation {
 /* The set with this excitation alone. The set of several is the sum of theirs. */
 #define ZIMGURAV_SET(excitation) (1 << (excitation))
 
-/* The refusals, by their numbers. Of several that apply the lowest is answered, but of 4 to 10 that of the lowest net.
- * The place is 0 where none is named. */
+/* The refusals, by their numbers. Of several that apply the lowest is answered, but of 4 to 10 that of the lowest net;
+ * zimgurav_bench has an order of its own. The place is 0 where none is named. */
 enum zimgurav_refusal {
     /* The file's length is not a multiple of 20 bytes. */
     ZIMGURAV_REFUSED_LENGTH = 1,
-    /* The file has more than 1,024 records. */
+    /* There are more than 1,024 records. */
     ZIMGURAV_REFUSED_RECORDS = 2,
-    /* The file has no record, or its first record is not an input. */
+    /* There is no record, or the first record is not an input. */
     ZIMGURAV_REFUSED_FIRST = 3,
     /* A record's kind is 0 or above 9. The place is its net. */
     ZIMGURAV_REFUSED_KIND = 4,
@@ -120,8 +123,8 @@ enum zimgurav_refusal {
     ZIMGURAV_REFUSED_STRAY_BYTE = 7,
     /* A gate's pin is not a net below its own. The place is the gate's net. */
     ZIMGURAV_REFUSED_PIN = 8,
-    /* A gate's contact, delay, rise or fall, or an input's set of allowed excitations, is out of range.
-     * The place is the net. */
+    /* A contact, delay, rise or fall of a gate or of a list's row, or an input's set of allowed excitations, is out of
+     * range. The place is the net; the row, from 0, of a list. */
     ZIMGURAV_REFUSED_RANGE = 9,
     /* A gate's arrival is after tick 255. The place is its net. */
     ZIMGURAV_REFUSED_ARRIVAL = 10,
@@ -134,11 +137,17 @@ enum zimgurav_refusal {
     /* The budget is above 10,000. */
     ZIMGURAV_REFUSED_BUDGET = 14,
     /* A lent buffer has the wrong size. The place is 1 for the sheet, 2 for the pattern, 3 for the work buffer, 4 for
-     * the case store; of several the lowest. */
+     * the case store; of zimgurav_bench 1 for the records, 2 for the list. Of several it is the lowest. */
     ZIMGURAV_REFUSED_BUFFER = 15,
     /* An input's byte of the pattern is no excitation that the input is allowed. The place is its net, of several the
      * lowest. */
-    ZIMGURAV_REFUSED_PATTERN = 16
+    ZIMGURAV_REFUSED_PATTERN = 16,
+    /* A line of the text fits no form, has no known kind or a wrong pin count, or is an INPUT after a gate.
+     * The place is the line, from 1. */
+    ZIMGURAV_REFUSED_LINE = 17,
+    /* A line of the text uses a name that no earlier line gives, or gives one that an earlier line gave.
+     * The place is the line, from 1. */
+    ZIMGURAV_REFUSED_NAME = 18
 };
 
 /* How a search ended. */
@@ -198,6 +207,30 @@ void zimgurav_search(
     uint8_t *pattern, size_t pattern_length,    /* ZIMGURAV_PATTERN_BYTES; unchanged past the inputs */
     uint8_t *work, size_t work_length,          /* as for zimgurav_envelope */
     uint8_t *store, size_t store_length,        /* at least ZIMGURAV_STORE_BYTES; unchanged past the cases */
+    uint64_t answer[ZIMGURAV_ANSWER_NUMBERS]);
+
+/* Turns a bench text into the records of a block. Refusals 15 and 9; then line by line 17, and after it 18; then 2, 3,
+ * 5 and 10, of the records that the text gives. Accepted: answer[1] how many records were written, from the buffer's
+ * beginning: its first ZIMGURAV_RECORD_BYTES * answer[1] bytes are a block file.
+ *
+ * A line ends at byte 10, the last one also at the text's end; lines count from 1. A comment goes from # to the line's
+ * end. Blanks (bytes 9, 13 and 32) are skipped wherever they stand, inside names and words too. What is left of a line
+ * is nothing or one of
+ *
+ *   INPUT(name)              an input that is allowed all four excitations; no INPUT stands after a gate
+ *   OUTPUT(name)             gives no record, and its name need not be known
+ *   name=KIND(name,...)      a gate and its pins, in this order; names of the pins are given by earlier lines
+ *
+ * A name is 1 to 16 letters (A to Z, a to z) or digits, and given once. KIND is AND, NAND, OR, NOR, XOR, XNOR (2 to 4
+ * pins), NOT, BUF or, for BUF, BUFF (1 pin). Small letters are other letters than capitals.
+ *
+ * A row of the list has the contact, delay, rise, fall, peak for lh and peak for hl of all gates of a kind, as bytes 1,
+ * 2 and 12 to 17 of a record. Row 0 is AND's, row 7 BUF's.
+ */
+void zimgurav_bench(
+    const uint8_t *text, size_t text_length, /* the bench text */
+    const uint8_t *list, size_t list_length, /* ZIMGURAV_LIST_BYTES */
+    uint8_t *records, size_t records_length, /* at least ZIMGURAV_BLOCK_BYTES; unchanged past the records */
     uint64_t answer[ZIMGURAV_ANSWER_NUMBERS]);
 
 #ifdef __cplusplus

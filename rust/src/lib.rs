@@ -2,7 +2,7 @@
 //!
 //! The functions here are safe forms of the proved library's own, which are in [`raw`]. Every value
 //! of every argument is accepted or refused; a refused call has changed no lent buffer. The layout
-//! of a block file is in `include/zimgurav.h`.
+//! of a block file and the form of a bench text are in `include/zimgurav.h`.
 //!
 //! The library allocates nothing, keeps nothing between calls and has no data that can change, so
 //! that any number of threads may call at once. It calls nothing but `memcpy` and `memset`. A call
@@ -78,23 +78,25 @@ pub struct Found {
 pub struct Refusal {
     /// Which of the refusals it is; [`refused`] has their names and says what each means.
     pub number: u64,
-    /// The net or the lent buffer that the refusal is about, else 0.
+    /// The net, the lent buffer, the row of the list or the line of the text that the refusal is
+    /// about, else 0. [`refused`] says which: buffers have the numbers that the call gives them.
     pub place: u64,
 }
 
 impl fmt::Display for Refusal {
     fn fmt(&self, f: &mut fmt::Formatter) -> fmt::Result {
         write!(f, "refused {}", self.number)?;
-        match (self.number, self.place) {
-            (refused::KIND..=refused::ARRIVAL | refused::PATTERN, net) => {
-                write!(f, " at net {net}")
-            }
-            (refused::BUFFER, 1) => f.write_str(" at the sheet"),
-            (refused::BUFFER, 2) => f.write_str(" at the pattern"),
-            (refused::BUFFER, 3) => f.write_str(" at the work buffer"),
-            (refused::BUFFER, 4) => f.write_str(" at the case store"),
-            _ => Ok(()),
-        }?;
+        let place = match self.number {
+            // A net of a file, but a row where the list of a bench text is refused.
+            refused::RANGE => Some("net or row"),
+            refused::KIND..=refused::ARRIVAL | refused::PATTERN => Some("net"),
+            refused::BUFFER => Some("buffer"),
+            refused::LINE | refused::NAME => Some("line"),
+            _ => None,
+        };
+        if let Some(name) = place {
+            write!(f, " at {name} {}", self.place)?;
+        }
         let meaning = refused::meaning(self.number).unwrap_or("no such refusal is known");
         write!(f, ": {meaning}")
     }
@@ -252,6 +254,34 @@ pub fn search(
         splits,
         cases,
     })
+}
+
+/// Turns a bench text into the records of a block, and returns how many there are: refusals 2, 3, 5,
+/// 9, 10, 15, 17 and 18.
+///
+/// - `text`: lines of `INPUT(name)`, `OUTPUT(name)`, `name = KIND(name, ...)` or nothing, with
+///   comments from `#` on.
+/// - `list`: contact, delay, rise, fall and peaks of the gates, as bytes 1, 2 and 12 to 17 of a
+///   record: [`LIST_ROW_BYTES`] for each kind, AND first; [`LIST_BYTES`].
+/// - `records`: at least [`BLOCK_BYTES`]. The records are written at its beginning, and the bytes past
+///   them are unchanged: `&records[..RECORD_BYTES * count as usize]` is a block file.
+pub fn bench(text: &[u8], list: &[u8], records: &mut [u8]) -> Result<u64, Refusal> {
+    let [count, ..] = values(|answer| {
+        // SAFETY: each pointer is of a slice or the answer and good for its length, and what may be
+        // changed is lent to this call alone.
+        unsafe {
+            raw::zimgurav_bench(
+                text.as_ptr(),
+                text.len(),
+                list.as_ptr(),
+                list.len(),
+                records.as_mut_ptr(),
+                records.len(),
+                answer,
+            )
+        }
+    })?;
+    Ok(count)
 }
 
 /// Makes a call, and returns what its answer has after the first number if that is 0, else the

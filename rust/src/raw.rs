@@ -88,4 +88,19 @@ unsafe extern "C" {
         store_length: usize,
         answer: *mut Answer,
     );
+
+    /// Writes the records of a bench text. Accepted: 0, how many records, then 0.
+    ///
+    /// # Safety
+    ///
+    /// As the [module](self) says.
+    pub fn zimgurav_bench(
+        text: *const u8,
+        text_length: usize,
+        list: *const u8,
+        list_length: usize,
+        records: *mut u8,
+        records_length: usize,
+        answer: *mut Answer,
+    );
 }

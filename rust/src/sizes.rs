@@ -3,15 +3,24 @@
 /// The version of the calls.
 ///
 /// It goes up with every change of what a call takes, answers or writes: two builds of one version
-/// give the same answers, sheets, patterns and stores. [`version`](crate::version) is that of the linked
-/// library, which has to be this one.
-pub const VERSION: u64 = 1;
+/// give the same answers, sheets, patterns, stores and records. [`version`](crate::version) is that of
+/// the linked library, which has to be this one.
+pub const VERSION: u64 = 2;
 
 /// A word of a sheet: a current in microamperes.
 pub type Word = u32;
 
 /// The bytes of a record of a block file.
 pub const RECORD_BYTES: usize = 20;
+
+/// The least bytes of a record buffer: as many as the records of the largest block have.
+pub const BLOCK_BYTES: usize = RECORD_BYTES * MOST_NETS as usize;
+
+/// The bytes of a row of a list: a kind's contact, delay, rise, fall and two peaks.
+pub const LIST_ROW_BYTES: usize = 8;
+
+/// The bytes of a list: a row for each kind of gate, AND first.
+pub const LIST_BYTES: usize = 8 * LIST_ROW_BYTES;
 
 /// The contacts: rows of a sheet, and resistances of a bus node in a table.
 pub const CONTACTS: usize = 16;

@@ -4,7 +4,7 @@ use Prim.Native.Nat.{ℕ, _≤_}
 use mathlib.Core.List.{List}
 use mathlib.Core.Path.{_≡_, refl, ap, sym, subst, _∙_}
 use native.Mathlib.Omega.{arith}
-use Rattle.block.specs.Record.{File}
+use Rattle.block.specs.Record.{File, netCount}
 use Rattle.block.specs.Refusals.{readChecks, answerTo, readOf}
 use Rattle.block.specs.Verdict.{verdict}
 use Rattle.block.specs.declared.Refusal.{Refusal}
@@ -15,6 +15,8 @@ use Rattle.block.proofs.Verdicts.{apart}
 use Rattle.operation.specs.Numbers.{readNumbers, currentsNumbers, searchNumbers}
 use Rattle.operation.specs.Operation.{answerAfter}
 use Rattle.operation.specs.declared.Currents.{Currents}
+use Rattle.bench.specs.Bench.{benchRecords, benchVerdict, benchAnswerAfter}
+use Rattle.bench.proofs.Answers.{bench-numbered}
 use Rattle.evaluation.specs.Evaluation.{currentsOf}
 use Rattle.simulator.specs.Simulate as simulate
 use Rattle.simulator.proofs.Answers.{simulate-numbered}
@@ -22,6 +24,7 @@ use Rattle.envelope.specs.Envelope as envelope
 use Rattle.envelope.proofs.Answers.{envelope-numbered}
 use Rattle.search.specs.Search.{searchOf, searchVerdict, searchAnswerAfter}
 use Rattle.search.proofs.Accepted.{search-numbered}
+use Rattle.zimgurav.specs.Calls.{benchNumbers}
 use Rattle.zimgurav.specs.Accepted.{refusedWith, ZeroMeansAccepted, AcceptedCalls}
 
 -- It is so of every answer that goes by the verdict: with 0 first where it is accepted, and with the refusal's number first where it is not.
@@ -47,6 +50,10 @@ read-accepted file =
 pub accepted-calls : AcceptedCalls
 accepted-calls = record {
   read = read-accepted;
+  bench = λ given records′ numbers call.
+      subst (ZeroMeansAccepted (benchVerdict given)) (sym (call .answered))
+      (zero-means-accepted (λ v. benchNumbers (benchAnswerAfter v (netCount (benchRecords given)))) refl (λ r. refl) (benchVerdict given)
+      (bench-numbered given));
   envelope = λ given sheet′ work′ numbers call.
       currents-accepted (envelope.envelopeVerdict given) (currentsOf (given .file) (given .table) (envelope.givenSheet given)) (call .answered)
       (envelope-numbered given);

@@ -9,10 +9,11 @@ use Rattle.block.specs.Verdict.{verdict}
 use Rattle.block.specs.declared.Verdict.{Verdict}
 use Rattle.block.specs.declared.Verdict.the-variants.{Accepted}
 use Rattle.operation.specs.Numbers.{readNumbers}
+use Rattle.bench.specs.Bench.{BenchArguments, benchVerdict}
 use Rattle.simulator.specs.Simulate.{SimulateArguments, simulateVerdict}
 use Rattle.envelope.specs.Envelope.{EnvelopeArguments, envelopeVerdict}
 use Rattle.search.specs.Search.{SearchArguments, searchVerdict}
-use Rattle.zimgurav.specs.Calls.{EnvelopeCalled, SimulateCalled, SearchCalled}
+use Rattle.zimgurav.specs.Calls.{BenchCalled, EnvelopeCalled, SimulateCalled, SearchCalled}
 
 -- The first number of an answer: 0 where the call was accepted, else the refusal's number.
 abbrev pub refusedWith : List ℕ → ℕ
@@ -23,9 +24,10 @@ pub record ZeroMeansAccepted (v : Verdict) (numbers : List ℕ) : Type 0 where
   pub zero-means : refusedWith numbers ≡ 0 → v ≡ Accepted
   pub zero-when : v ≡ Accepted → refusedWith numbers ≡ 0
 
--- It is so for each of the four calls, whatever their arguments.
+-- It is so for each of the five calls, whatever their arguments.
 pub record AcceptedCalls : Type 0 where
   pub read : (file : File) → ZeroMeansAccepted (verdict (readChecks file)) (readNumbers (readOf file))
+  pub bench : (given : BenchArguments) (records′ numbers : List ℕ) → BenchCalled given records′ numbers → ZeroMeansAccepted (benchVerdict given) numbers
   pub envelope : (given : EnvelopeArguments) (sheet′ work′ numbers : List ℕ) → EnvelopeCalled given sheet′ work′ numbers
       → ZeroMeansAccepted (envelopeVerdict given) numbers
   pub simulate : (given : SimulateArguments) (sheet′ work′ numbers : List ℕ) → SimulateCalled given sheet′ work′ numbers

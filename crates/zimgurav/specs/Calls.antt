@@ -1,11 +1,15 @@
--- What the calls from C promise (document 01, "List of forms by place", and "What the checker must hold us to", 1): the eight numbers
--- of the answer, and each buffer as the call leaves it.
+-- What the calls from C promise (document 01, "List of forms by place", and "What the checker must hold us to", 1; request 1): the eight
+-- numbers of the answer, and each buffer as the call leaves it.
 use Prim.Native.Nat.{ℕ}
-use mathlib.Core.List.{List}
+use mathlib.Core.List.{List, [], _∷_}
 use mathlib.Core.Path.{_≡_}
-use Rattle.operation.specs.Numbers.{currentsNumbers, searchNumbers}
+use Rattle.block.specs.Record.{netCount}
+use Rattle.operation.specs.Numbers.{eight, refusalNumbers, currentsNumbers, searchNumbers}
 use Rattle.operation.specs.Operation.{bufferAfter, WorkAfter}
 use Rattle.operation.specs.declared.SearchAnswer.{SearchAnswer}
+use Rattle.bench.specs.Bench.{BenchArguments, benchRecords, benchVerdict, benchAnswerAfter, overlaid}
+use Rattle.bench.specs.declared.BenchAnswer.{BenchAnswer}
+use Rattle.bench.specs.declared.BenchAnswer.the-variants as bench-answer
 use Rattle.current.specs.Current.{sheetWords}
 use Rattle.simulator.specs.Simulate as simulate
 use Rattle.envelope.specs.Envelope as envelope
@@ -13,7 +17,17 @@ use Rattle.search.specs.Search.{SearchArguments, Searched}
 
 -- The version of the calls: a number that goes up with every change of what a call takes, answers or writes.
 abbrev pub version : ℕ
-version = 1
+version = 2
+
+-- Bench: the record count.
+abbrev pub benchNumbers : BenchAnswer → List ℕ
+benchNumbers (bench-answer.Count count) = eight (0 ∷ count ∷ [])
+benchNumbers (bench-answer.Refused r) = refusalNumbers r
+
+-- Bench: the numbers of its answer, and its record buffer.
+pub record BenchCalled (given : BenchArguments) (records′ numbers : List ℕ) : Type 0 where
+  pub answered : numbers ≡ benchNumbers (benchAnswerAfter (benchVerdict given) (netCount (benchRecords given)))
+  pub written : records′ ≡ bufferAfter (benchVerdict given) (overlaid (benchRecords given) (given .records)) (given .records)
 
 -- Envelope: the numbers of its answer, and its buffers.
 pub record EnvelopeCalled (given : envelope.EnvelopeArguments) (sheet′ work′ numbers : List ℕ) : Type 0 where

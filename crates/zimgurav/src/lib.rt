@@ -2,7 +2,8 @@
 ghost use mathlib.Core.Path.{_≡_};
 ghost use Rattle.block.specs.Refusals.{readOf};
 ghost use Rattle.operation.specs.Numbers.{refusalNumbers, readNumbers, currentsNumbers, outcomeNumber, searchNumbers};
-ghost use Rattle.zimgurav.specs.Calls.{version, EnvelopeCalled, SimulateCalled, SearchCalled};
+ghost use Rattle.zimgurav.specs.Calls.{version, benchNumbers, BenchCalled, EnvelopeCalled, SimulateCalled, SearchCalled};
+use bench::BenchAnswer;
 use block::ReadAnswer;
 use block::Refusal;
 use current::Word;
@@ -24,6 +25,16 @@ fn read_numbers(answer: ReadAnswer) -> [u64; 8]
     match answer {
         ReadAnswer::Counts { nets, inputs } => [0, nets, inputs, 0, 0, 0, 0, 0],
         ReadAnswer::Refused(r) => refusal_numbers(r),
+    }
+}
+
+// Bench's answer as eight numbers.
+fn bench_numbers(answer: BenchAnswer) -> [u64; 8]
+    ensures { λ r. ⌜ r ≡ benchNumbers answer ⌝ }
+{
+    match answer {
+        BenchAnswer::Count(count) => [0, count, 0, 0, 0, 0, 0, 0],
+        BenchAnswer::Refused(r) => refusal_numbers(r),
     }
 }
 
@@ -77,7 +88,7 @@ fn search_numbers(answer: SearchAnswer) -> [u64; 8]
 pub extern "C" fn zimgurav_version() -> u64
     ensures { λ r. ⌜ r ≡ version ⌝ }
 {
-    1
+    2
 }
 
 // Read: the file's counts of nets and inputs, or its refusal.
@@ -86,6 +97,19 @@ pub extern "C" fn zimgurav_read(file: &[u8], answer: &mut [u64; 8])
     ensures { λ _. ⌜ now (answer .exit) ≡ readNumbers (readOf (now (file .entry))) ⌝ }
 {
     *answer = read_numbers(block::read(file));
+}
+
+// Bench: the records of a bench text, which go into the record buffer, and their count, or the refusal.
+#[no_mangle]
+pub extern "C" fn zimgurav_bench(
+    text: &[u8],
+    list: &[u8],
+    records: &mut [u8],
+    answer: &mut [u64; 8],
+)
+    ensures { λ _. ⌜ BenchCalled (record { text = now (text .entry); list = now (list .entry); records = now (records .entry) }) (now (records .exit)) (now (answer .exit)) ⌝ }
+{
+    *answer = bench_numbers(bench::bench(text, list, records));
 }
 
 // Envelope: the drop and the quiet tick of the frame's envelope, which goes into the sheet, or the refusal.
