@@ -47,8 +47,11 @@ fn same(these: &Arguments, those: &Arguments) -> Result<(), String> {
     same_words("pattern", &these.pattern, &those.pattern)?;
     same_words("case store", &these.store, &those.store)?;
     same_words("work buffer", &these.work, &those.work)?;
+    same_words("record buffer", &these.records, &those.records)?;
     same_words("file", &these.file, &those.file)?;
-    same_words("table", &these.table, &those.table)
+    same_words("table", &these.table, &those.table)?;
+    same_words("text", &these.text, &those.text)?;
+    same_words("list", &these.list, &those.list)
 }
 
 fn same_words<T: PartialEq + Display>(name: &str, these: &[T], those: &[T]) -> Result<(), String> {
@@ -63,79 +66,90 @@ fn same_words<T: PartialEq + Display>(name: &str, these: &[T], those: &[T]) -> R
 #[cfg(test)]
 pub mod faults {
     use super::*;
+    use crate::implementation::SECOND;
     use crate::second;
     use zimgurav::{Counts, Currents, Found};
 
     /// Envelope answers a drop one too high.
-    pub const HIGH_DROP: Implementation = Implementation::new(
-        "high drop",
-        second::read,
-        |file, hop_limit, table, sheet, work| {
+    pub const HIGH_DROP: Implementation = Implementation {
+        name: "high drop",
+        envelope: |file, hop_limit, table, sheet, work| {
             let currents = second::envelope(file, hop_limit, table, sheet, work)?;
             let drop = currents.drop + 1;
             Ok(Currents { drop, ..currents })
         },
-        second::simulate,
-        second::search,
-    );
+        ..SECOND
+    };
 
     /// Simulate leaves the sheet untouched.
-    pub const SHEET_UNTOUCHED: Implementation = Implementation::new(
-        "sheet untouched",
-        second::read,
-        second::envelope,
-        |file, table, sheet, pattern, work| {
+    pub const SHEET_UNTOUCHED: Implementation = Implementation {
+        name: "sheet untouched",
+        simulate: |file, table, sheet, pattern, work| {
             second::simulate(file, table, &mut sheet.to_vec(), pattern, work)
         },
-        second::search,
-    );
+        ..SECOND
+    };
 
     /// Search clears the last byte of the case store, whatever it answers.
-    pub const STORE_CLEARED: Implementation = Implementation::new(
-        "store cleared",
-        second::read,
-        second::envelope,
-        second::simulate,
-        |file, hop_limit, table, ratio, budget, sheet, pattern, work, store| {
+    pub const STORE_CLEARED: Implementation = Implementation {
+        name: "store cleared",
+        search: |file, hop_limit, table, ratio, budget, sheet, pattern, work, store| {
             let answer = second::search(
                 file, hop_limit, table, ratio, budget, sheet, pattern, work, store,
             );
-            store
-                .iter_mut()
-                .last()
-                .into_iter()
-                .for_each(|byte| *byte = 0);
+            clear_last(store);
             answer
         },
-    );
+        ..SECOND
+    };
 
     /// Search hands over a drop one above its pattern's.
-    pub const HIGH_LOWER: Implementation = Implementation::new(
-        "high lower number",
-        second::read,
-        second::envelope,
-        second::simulate,
-        |file, hop_limit, table, ratio, budget, sheet, pattern, work, store| {
+    pub const HIGH_LOWER: Implementation = Implementation {
+        name: "high lower number",
+        search: |file, hop_limit, table, ratio, budget, sheet, pattern, work, store| {
             let found = second::search(
                 file, hop_limit, table, ratio, budget, sheet, pattern, work, store,
             )?;
             let lower = found.lower + 1;
             Ok(Found { lower, ..found })
         },
-    );
+        ..SECOND
+    };
 
     /// Read counts one input too few.
-    pub const INPUT_LOST: Implementation = Implementation::new(
-        "input lost",
-        |file| {
+    pub const INPUT_LOST: Implementation = Implementation {
+        name: "input lost",
+        read: |file| {
             let counts = second::read(file)?;
             let inputs = counts.inputs - 1;
             Ok(Counts { inputs, ..counts })
         },
-        second::envelope,
-        second::simulate,
-        second::search,
-    );
+        ..SECOND
+    };
+
+    /// Bench answers one record too many.
+    pub const HIGH_COUNT: Implementation = Implementation {
+        name: "high count",
+        bench: |text, list, records| Ok(second::bench(text, list, records)? + 1),
+        ..SECOND
+    };
+
+    /// Bench clears the last byte of the record buffer, whatever it answers.
+    pub const RECORDS_CLEARED: Implementation = Implementation {
+        name: "records cleared",
+        bench: |text, list, records| {
+            let answer = second::bench(text, list, records);
+            clear_last(records);
+            answer
+        },
+        ..SECOND
+    };
+
+    fn clear_last(buffer: &mut [u8]) {
+        if let Some(byte) = buffer.last_mut() {
+            *byte = 0;
+        }
+    }
 }
 
 #[cfg(test)]
@@ -162,6 +176,8 @@ mod tests {
         assert!(drop.starts_with("high drop answers Ok(Currents { drop: 21"));
         let inputs = said(INPUT_LOST, Implementation::read, &arguments);
         assert!(inputs.starts_with("input lost answers Ok(Counts { nets: 3, inputs: 0"));
+        let count = said(HIGH_COUNT, Implementation::bench, &arguments);
+        assert_eq!(count, "high count answers Ok(2), second Ok(1)");
     }
 
     #[test]
@@ -175,6 +191,11 @@ mod tests {
         arguments.ratio = 0;
         let refused = said(STORE_CLEARED, Implementation::search, &arguments);
         assert!(refused.starts_with("store cleared refuses and changes case store at"));
+        let records = said(RECORDS_CLEARED, Implementation::bench, &arguments);
+        assert!(records.ends_with("differ: record buffer at 20479: 0, 238"));
+        arguments.text.clear();
+        let refused = said(RECORDS_CLEARED, Implementation::bench, &arguments);
+        assert!(refused.starts_with("records cleared refuses and changes record buffer at"));
     }
 
     #[test]

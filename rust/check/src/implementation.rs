@@ -1,4 +1,4 @@
-//! Implementations of Read, Envelope, Simulate and Search, to be compared with each other.
+//! Implementations of Read, Envelope, Simulate, Search and Bench, to be compared with each other.
 
 use crate::sample::Arguments;
 use crate::second;
@@ -27,54 +27,44 @@ pub type Search = fn(
     &mut [u8],
 ) -> Result<Found, Refusal>;
 
-/// One implementation of the four operations.
+/// What is called Bench: text, list and record buffer.
+pub type Bench = fn(&[u8], &[u8], &mut [u8]) -> Result<u64, Refusal>;
+
+/// One implementation of the operations.
 #[derive(Clone, Copy)]
 pub struct Implementation {
     pub name: &'static str,
-    read: Read,
-    envelope: Envelope,
-    simulate: Simulate,
-    search: Search,
+    pub read: Read,
+    pub envelope: Envelope,
+    pub simulate: Simulate,
+    pub search: Search,
+    pub bench: Bench,
 }
 
 /// One of the operations of an implementation, with those of the arguments that it takes.
 pub type Operation<Answer> = fn(&Implementation, &mut Arguments) -> Result<Answer, Refusal>;
 
 /// The proved library.
-pub const LIBRARY: Implementation = Implementation::new(
-    "library",
-    zimgurav::read,
-    zimgurav::envelope,
-    zimgurav::simulate,
-    zimgurav::search,
-);
+pub const LIBRARY: Implementation = Implementation {
+    name: "library",
+    read: zimgurav::read,
+    envelope: zimgurav::envelope,
+    simulate: zimgurav::simulate,
+    search: zimgurav::search,
+    bench: zimgurav::bench,
+};
 
 /// The second implementation.
-pub const SECOND: Implementation = Implementation::new(
-    "second",
-    second::read,
-    second::envelope,
-    second::simulate,
-    second::search,
-);
+pub const SECOND: Implementation = Implementation {
+    name: "second",
+    read: second::read,
+    envelope: second::envelope,
+    simulate: second::simulate,
+    search: second::search,
+    bench: second::bench,
+};
 
 impl Implementation {
-    pub const fn new(
-        name: &'static str,
-        read: Read,
-        envelope: Envelope,
-        simulate: Simulate,
-        search: Search,
-    ) -> Self {
-        Implementation {
-            name,
-            read,
-            envelope,
-            simulate,
-            search,
-        }
-    }
-
     /// Read with the file.
     pub fn read(&self, arguments: &mut Arguments) -> Result<Counts, Refusal> {
         (self.read)(&arguments.file)
@@ -102,7 +92,7 @@ impl Implementation {
         )
     }
 
-    /// Search with all of the arguments.
+    /// Search with those of the arguments that it takes.
     pub fn search(&self, arguments: &mut Arguments) -> Result<Found, Refusal> {
         (self.search)(
             &arguments.file,
@@ -115,5 +105,10 @@ impl Implementation {
             &mut arguments.work,
             &mut arguments.store,
         )
+    }
+
+    /// Bench with text, list and record buffer.
+    pub fn bench(&self, arguments: &mut Arguments) -> Result<u64, Refusal> {
+        (self.bench)(&arguments.text, &arguments.list, &mut arguments.records)
     }
 }

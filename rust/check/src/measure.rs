@@ -1,4 +1,4 @@
-//! Times of Envelope, Simulate and Search, taken of several implementations in turn.
+//! Times of Envelope, Simulate, Search and Bench, taken of several implementations in turn.
 
 use std::fs;
 use std::hint::black_box;
@@ -77,20 +77,32 @@ fn with_table(random: &mut Random, block: &[Record], table: Vec<u16>) -> Argumen
 /// Prints the median times of Envelope and Simulate, and the ratio of the first implementation's to
 /// each of the others'.
 pub fn compare(name: &str, arguments: &Arguments, implementations: &[Implementation]) {
-    let turns = Turns {
-        rounds: 31,
-        calls: 10,
-    };
     let operations: [(&str, Operation<Currents>); 2] = [
         ("envelope", Implementation::envelope),
         ("simulate", Implementation::simulate),
     ];
     for (operation, call) in operations {
-        for (_, times) in medians(&[arguments], implementations, call, turns) {
-            print!("{operation}, {name}:");
-            print_times(implementations, &times);
-            println!();
-        }
+        let name = format!("{operation}, {name}");
+        compare_operation(&name, call, arguments, implementations);
+    }
+}
+
+/// Prints the median times of an operation, and the ratio of the first implementation's to each of the
+/// others'.
+pub fn compare_operation<Answer: Copy + PartialEq>(
+    name: &str,
+    call: Operation<Answer>,
+    arguments: &Arguments,
+    implementations: &[Implementation],
+) {
+    let turns = Turns {
+        rounds: 31,
+        calls: 10,
+    };
+    for (_, times) in medians(&[arguments], implementations, call, turns) {
+        print!("{name}:");
+        print_times(implementations, &times);
+        println!();
     }
 }
 

@@ -12,7 +12,11 @@ pub const PARTS: [&str; 2] = [
 ];
 
 /// The heads of the tables.
-const HEADS: [&str; 2] = ["| document 01 | held by |", "| code | document 01 |"];
+const HEADS: [&str; 3] = [
+    "| document 01 | held by |",
+    "| the request | held by |",
+    "| code | document 01 |",
+];
 
 /// The kinds of names, and how many parts each has in full: crate, file and name; crate or file, and
 /// name; a path.

@@ -1,18 +1,19 @@
-//! What the header and the wrapper say of the calls beside what they answer: the version, the sizes, the
-//! kinds, the excitations and the refusals, in C as in Rust, and calls from many threads at once.
+//! What the header, the wrapper and the reference page say of the calls beside what they answer: the version,
+//! the sizes, the kinds, the excitations and the refusals, in C as in Rust, and calls from many threads at once.
 
 use std::thread;
 
 use check::implementation::LIBRARY;
 use check::repository::text;
-use check::sample::{block_f, Arguments, Random, Shape};
+use check::sample::{block_f, lend_random_text, Arguments, Random, Shape};
 use zimgurav::{refused, Refusal};
 
 /// The header, its comments' lines joined.
 fn header() -> String {
     let lines = text("include/zimgurav.h");
-    let lines = lines.lines().map(|line| line.trim_start_matches(" *"));
-    lines.map(str::trim).collect::<Vec<_>>().join(" ")
+    let lines = lines.lines().map(str::trim);
+    let lines = lines.map(|line| line.trim_start_matches("* "));
+    lines.collect::<Vec<_>>().join(" ")
 }
 
 /// The header defines the name as the number.
@@ -32,6 +33,9 @@ fn version() {
 fn sizes() {
     for (name, size) in [
         ("RECORD_BYTES", zimgurav::RECORD_BYTES),
+        ("BLOCK_BYTES", zimgurav::BLOCK_BYTES),
+        ("LIST_ROW_BYTES", zimgurav::LIST_ROW_BYTES),
+        ("LIST_BYTES", zimgurav::LIST_BYTES),
         ("CONTACTS", zimgurav::CONTACTS),
         ("ROW_TICKS", zimgurav::ROW_TICKS),
         ("SHEET_WORDS", zimgurav::SHEET_WORDS),
@@ -90,7 +94,7 @@ mod refusals {
     fn mean_the_same_in_c() {
         let header = header();
         let (_, mut rest) = header.split_once("enum zimgurav_refusal {").expect("enum");
-        for number in 1..=16 {
+        for number in 1..=18 {
             let meaning = refused::meaning(number).expect("a meaning");
             let (first, others) = meaning.split_at(1);
             let sentence = format!("/* {}{others}.", first.to_uppercase());
@@ -104,7 +108,7 @@ mod refusals {
         let (last, _) = rest.split_once("};").expect("the end of the enum");
         assert_eq!(last.trim(), "");
         assert_eq!(refused::meaning(0), None);
-        assert_eq!(refused::meaning(17), None);
+        assert_eq!(refused::meaning(19), None);
     }
 
     #[track_caller]
@@ -115,39 +119,52 @@ mod refusals {
     #[test]
     fn are_said_with_their_places() {
         says(
+            refused::PIN,
+            3,
+            "refused 8 at net 3: a gate's pin is not a net below its own",
+        );
+        says(
             refused::RANGE,
             3,
-            "refused 9 at net 3: a gate's contact, delay, rise or fall, or an input's set of \
-             allowed excitations, is out of range",
+            "refused 9 at net or row 3: a contact, delay, rise or fall of a gate or of a list's \
+             row, or an input's set of allowed excitations, is out of range",
         );
         says(
             refused::HOP_LIMIT,
             0,
             "refused 11: the hop limit is not 1 to 16",
         );
-        let buffers = ["sheet", "pattern", "work buffer", "case store"];
-        for (place, buffer) in (1..).zip(buffers) {
-            let wrong = "a lent buffer has the wrong size";
-            says(
-                refused::BUFFER,
-                place,
-                &format!("refused 15 at the {buffer}: {wrong}"),
-            );
-        }
+        says(
+            refused::BUFFER,
+            4,
+            "refused 15 at buffer 4: a lent buffer has the wrong size",
+        );
         says(
             refused::PATTERN,
             0,
             "refused 16 at net 0: an input's byte of the pattern is no excitation that the input \
              is allowed",
         );
-        says(17, 0, "refused 17: no such refusal is known");
+        says(
+            refused::LINE,
+            3,
+            "refused 17 at line 3: a line of the text fits no form, has no known kind or a wrong \
+             pin count, or is an INPUT after a gate",
+        );
+        says(
+            refused::NAME,
+            12,
+            "refused 18 at line 12: a line of the text uses a name that no earlier line gives, or \
+             gives one that an earlier line gave",
+        );
+        says(19, 0, "refused 19: no such refusal is known");
     }
 
     /// Each name stands for what the library refuses with its number.
     #[test]
     fn have_their_numbers() {
         type Fault = fn(&mut Arguments);
-        let faults: [(u64, Fault); 16] = [
+        let faults: [(u64, Fault); 18] = [
             (refused::LENGTH, |lent| lent.file.push(0)),
             (refused::RECORDS, |lent| lent.file.resize(20 * 1025, 0)),
             (refused::FIRST, |lent| lent.file.clear()),
@@ -164,14 +181,16 @@ mod refusals {
             (refused::BUDGET, |lent| lent.budget = 10_001),
             (refused::BUFFER, |lent| lent.sheet.clear()),
             (refused::PATTERN, |lent| lent.pattern[0] = 4),
+            (refused::LINE, |lent| lent.text.push(b'b')),
+            (refused::NAME, |lent| lent.text.extend(b"\nINPUT(a)")),
         ];
         for (number, make) in faults {
             let mut lent = Arguments::new(&block_f());
             make(&mut lent);
-            let answer = if number == refused::PATTERN {
-                LIBRARY.simulate(&mut lent).map(drop)
-            } else {
-                LIBRARY.search(&mut lent).map(drop)
+            let answer = match number {
+                refused::PATTERN => LIBRARY.simulate(&mut lent).map(drop),
+                refused::LINE | refused::NAME => LIBRARY.bench(&mut lent).map(drop),
+                _ => LIBRARY.search(&mut lent).map(drop),
             };
             assert_eq!(answer.map_err(|refusal| refusal.number), Err(number));
         }
@@ -187,6 +206,71 @@ mod refusals {
     }
 }
 
+/// The reference page has what the header declares.
+mod reference {
+    use super::*;
+
+    fn page() -> String {
+        text("docs/REFERENCE.md")
+    }
+
+    /// The words of the header, marks apart.
+    fn words() -> Vec<String> {
+        let header = header();
+        let words = header.split(|each: char| !each.is_alphanumeric() && each != '_');
+        let words = words.filter(|word| !word.is_empty());
+        words.map(str::to_string).collect()
+    }
+
+    /// The words that stand after this one in the header.
+    fn after(word: &str) -> Vec<String> {
+        let words = words();
+        let pairs = words.windows(2).filter(|pair| pair[0] == word);
+        pairs.map(|pair| pair[1].clone()).collect()
+    }
+
+    #[test]
+    fn has_the_version() {
+        let sentence = format!("It is {} today.", zimgurav::VERSION);
+        assert!(page().contains(&sentence), "{sentence}");
+    }
+
+    #[test]
+    fn has_every_size() {
+        let names = after("define");
+        assert!(names.len() > 20, "{names:?}");
+        for name in names.iter().filter(|name| *name != "ZIMGURAV_HEADER") {
+            assert!(page().contains(&format!("`{name}")), "{name}");
+        }
+    }
+
+    #[test]
+    fn has_every_call() {
+        let returned = after("void").into_iter().chain(after("uint64_t"));
+        let calls = returned.filter(|word| word.starts_with("zimgurav_"));
+        let calls: Vec<String> = calls.collect();
+        assert_eq!(calls.len(), 6, "{calls:?}");
+        for call in calls {
+            assert!(page().contains(&format!("\n| `{call}` |")), "{call}");
+        }
+    }
+
+    #[test]
+    fn has_every_refusal() {
+        let words = words();
+        let mut refusals = 0;
+        for pair in words.windows(2) {
+            let name = pair[0].strip_prefix("ZIMGURAV_REFUSED_");
+            if let (Some(name), Ok(number)) = (name, pair[1].parse::<u64>()) {
+                let row = format!("\n| **{number}** `{name}` |");
+                assert!(page().contains(&row), "{row}");
+                refusals += 1;
+            }
+        }
+        assert_eq!(refusals, 18);
+    }
+}
+
 /// Threads that call at once, each with buffers of its own, get and write what they do one by one.
 #[test]
 fn calls_at_once() {
@@ -194,7 +278,9 @@ fn calls_at_once() {
     let calls: Vec<Arguments> = (0..64)
         .map(|_| {
             let block = Shape::to_search(&mut random).block(&mut random);
-            Arguments::random(&mut random, &block)
+            let mut arguments = Arguments::random(&mut random, &block);
+            lend_random_text(&mut random, 40, &mut arguments);
+            arguments
         })
         .collect();
     let all = |lent: &Arguments| {
@@ -203,8 +289,9 @@ fn calls_at_once() {
             LIBRARY.envelope(&mut lent),
             LIBRARY.simulate(&mut lent),
             LIBRARY.search(&mut lent),
+            LIBRARY.bench(&mut lent),
         );
-        (answers, lent.sheet, lent.pattern, lent.store)
+        (answers, lent.sheet, lent.pattern, lent.store, lent.records)
     };
     let alone: Vec<_> = calls.iter().map(all).collect();
     thread::scope(|scope| {

@@ -1,11 +1,12 @@
-//! The library against the second implementation on random and damaged files, and on random arguments.
+//! The library against the second implementation on random and damaged files and bench texts, and on random
+//! arguments.
 
 use std::fmt::Debug;
 
 use check::comparison;
 use check::implementation::{Implementation, Operation, LIBRARY, SECOND};
 use check::measure::full_blocks;
-use check::sample::{damage, noise, spoil, Arguments, Random, Record, Shape};
+use check::sample::{damage, lend_random_text, noise, spoil, Arguments, Random, Record, Shape};
 use check::second;
 use zimgurav::{read, Counts, Outcome, Refusal};
 
@@ -16,6 +17,9 @@ const CALLS: usize = 4_000;
 
 /// How many calls of Search there are.
 const SEARCHES: usize = 2_000;
+
+/// How many calls of Bench there are.
+const TEXTS: usize = 40_000;
 
 /// How many records a file has before it is damaged: mostly few, sometimes any number, sometimes
 /// about the limit of 1,024.
@@ -115,7 +119,7 @@ fn compare<Answer: Copy + Debug + PartialEq>(
 }
 
 /// Counts the accepted calls and the refusals by their numbers.
-fn count<Answer>(reached: &mut [usize; 17], answer: Result<Answer, Refusal>) {
+fn count<Answer>(reached: &mut [usize; 19], answer: Result<Answer, Refusal>) {
     let number = answer.map_or_else(|refusal| refusal.number, |_| 0);
     reached[number as usize] += 1;
 }
@@ -123,7 +127,7 @@ fn count<Answer>(reached: &mut [usize; 17], answer: Result<Answer, Refusal>) {
 #[test]
 fn random_envelopes() {
     let mut random = Random::new(2);
-    let mut reached = [0; 17];
+    let mut reached = [0; 19];
     let mut hops_mattered = 0;
     for turn in 0..CALLS {
         let arguments = random_arguments(&mut random);
@@ -139,7 +143,7 @@ fn random_envelopes() {
         }
     }
     println!(
-        "accepted, then refusals 1 to 16: {reached:?}; hop limits mattered {hops_mattered} times"
+        "accepted, then refusals 1 to 18: {reached:?}; hop limits mattered {hops_mattered} times"
     );
     for number in [0, 11, 12, 15] {
         assert!(reached[number] >= 20, "reached too seldom: {reached:?}");
@@ -153,13 +157,13 @@ fn random_envelopes() {
 #[test]
 fn random_simulations() {
     let mut random = Random::new(3);
-    let mut reached = [0; 17];
+    let mut reached = [0; 19];
     for turn in 0..CALLS {
         let arguments = random_arguments(&mut random);
         let answer = compare(Implementation::simulate, &arguments, turn);
         count(&mut reached, answer);
     }
-    println!("accepted, then refusals 1 to 16: {reached:?}");
+    println!("accepted, then refusals 1 to 18: {reached:?}");
     for number in [0, 12, 15, 16] {
         assert!(reached[number] >= 20, "reached too seldom: {reached:?}");
     }
@@ -190,7 +194,7 @@ fn random_search(random: &mut Random) -> Arguments {
 #[test]
 fn random_searches() {
     let mut random = Random::new(4);
-    let mut reached = [0; 17];
+    let mut reached = [0; 19];
     let mut outcomes = [0; 3];
     let mut after_splits = [0; 3];
     for turn in 0..SEARCHES {
@@ -202,7 +206,7 @@ fn random_searches() {
             after_splits[found.outcome as usize] += usize::from(found.splits > 0);
         }
     }
-    println!("accepted, then refusals 1 to 16: {reached:?}");
+    println!("accepted, then refusals 1 to 18: {reached:?}");
     println!("exact, within, spent: {outcomes:?}, after a split: {after_splits:?}");
     for number in 11..=15 {
         assert!(reached[number] >= 10, "reached too seldom: {reached:?}");
@@ -211,6 +215,34 @@ fn random_searches() {
         after_splits.iter().all(|&times| times >= 50),
         "an outcome came too seldom after a split: {after_splits:?}"
     );
+}
+
+/// How many records a text has before it is damaged: mostly few, seldom about as many as there can be.
+fn records_of_a_text(random: &mut Random) -> usize {
+    match random.below(128) {
+        0 => 1020 + random.below(10),
+        1 | 2 => 1 + random.below(1024),
+        _ => 1 + random.below(24),
+    }
+}
+
+#[test]
+fn random_texts() {
+    let mut random = Random::new(5);
+    let mut reached = [0; 19];
+    let mut arguments = Arguments::new(&[]);
+    for turn in 0..TEXTS {
+        let records = records_of_a_text(&mut random);
+        lend_random_text(&mut random, records, &mut arguments);
+        let answer = compare(Implementation::bench, &arguments, turn);
+        count(&mut reached, answer);
+    }
+    println!("accepted, then refusals 1 to 18: {reached:?}");
+    for number in [0, 2, 3, 5, 9, 10, 15, 17, 18] {
+        assert!(reached[number] >= 50, "reached too seldom: {reached:?}");
+    }
+    let others = [1, 4, 6, 7, 8, 11, 12, 13, 14, 16];
+    assert!(others.iter().all(|&number| reached[number] == 0));
 }
 
 /// Compares searches of the largest block, 64 inputs and 960 gates, that spend this budget.

@@ -6,8 +6,8 @@ use std::collections::BTreeSet;
 use check::repository::text;
 use check::trace::{code, rows, Row, PARTS};
 
-/// The headings of document 01 that say what binds us.
-const HEADINGS: [&str; 11] = [
+/// The headings of document 01 that say what binds us, and the change requests.
+const HEADINGS: [&str; 12] = [
     "The block file",
     "Refusals in checking order",
     "Excitations and sets",
@@ -19,6 +19,7 @@ const HEADINGS: [&str; 11] = [
     "Traps of this method",
     "List of forms by place",
     "What the checker must hold us to",
+    "Request 1: bench netlists",
 ];
 
 /// The names of a row that are nowhere, and items with a name but no kind, whose names nobody looks up.

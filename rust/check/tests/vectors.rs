@@ -1,4 +1,4 @@
-//! Document 01's vectors, through the library and the second implementation.
+//! The vectors, through the library and the second implementation.
 
 use std::fs;
 use std::path::{Path, PathBuf};
@@ -8,13 +8,17 @@ use check::sample::Arguments;
 use check::second;
 use zimgurav::{read, Counts, Currents, Found, Outcome, Refusal, Word};
 
-/// The vector files, and how many calls of each operation each of them holds.
-const FILES: [(&str, usize); 5] = [
-    ("arguments.txt", 70),
-    ("capped.txt", 12),
-    ("damaged.txt", 90),
-    ("gappy.txt", 60),
-    ("small.txt", 90),
+/// The operations on a block file.
+const OF_FILES: &[&str] = &["read", "envelope", "simulate", "search"];
+
+/// The vector files, the operations that each of them calls, and how often it calls each.
+const FILES: [(&str, &[&str], usize); 6] = [
+    ("arguments.txt", OF_FILES, 70),
+    ("bench.txt", &["bench"], 637),
+    ("capped.txt", OF_FILES, 12),
+    ("damaged.txt", OF_FILES, 90),
+    ("gappy.txt", OF_FILES, 60),
+    ("small.txt", OF_FILES, 90),
 ];
 
 /// A call, `OPERATION ARGUMENTS`, and its right answer, in words.
@@ -105,6 +109,7 @@ impl<'a> Vector<'a> {
             pattern: unused_bytes(pattern),
             work: unused_bytes(work),
             store: unused_bytes(store),
+            ..Arguments::new(&[])
         };
         for implementation in [LIBRARY, SECOND] {
             let name = implementation.name;
@@ -146,6 +151,32 @@ impl<'a> Vector<'a> {
             } else {
                 assert_eq!(answer, Err(self.refusal(at)), "{name}, {at}");
                 assert!(lent == *arguments, "{name} changed a buffer, {at}");
+            }
+        }
+    }
+
+    /// Calls Bench in both implementations and compares the count and the record buffer with the right
+    /// answer. A refusal leaves everything as it was.
+    fn run_bench(&self, at: &str) {
+        let [text, list, records_length] = self.arguments[..] else {
+            panic!("bench takes three arguments, {at}");
+        };
+        let arguments = Arguments {
+            text: bytes(text),
+            list: bytes(list),
+            records: unused_bytes(records_length),
+            ..Arguments::new(&[])
+        };
+        for implementation in [LIBRARY, SECOND] {
+            let name = implementation.name;
+            let mut lent = arguments.clone();
+            let answer = implementation.bench(&mut lent);
+            if let ["ok", count, records] = self.answer[..] {
+                assert_eq!(answer, Ok(decimal(count)), "{name}, {at}");
+                assert_eq!(hash(lent.records), records, "{name}'s records, {at}");
+            } else {
+                assert_eq!(answer, Err(self.refusal(at)), "{name}, {at}");
+                assert!(lent == arguments, "{name} changed a buffer, {at}");
             }
         }
     }
@@ -239,7 +270,7 @@ fn text(part: &str, name: &str) -> String {
 
 /// Makes an operation's calls of each file; the answer stands on the line that the call does.
 fn run(operation: &str, call: impl Fn(&Vector, &str)) {
-    for (name, expected) in FILES {
+    for (name, operations, times) in FILES {
         let (calls, answers) = (text("calls", name), text("answers", name));
         let mut made = 0;
         for (index, (line, answer)) in calls.lines().zip(answers.lines()).enumerate() {
@@ -249,6 +280,8 @@ fn run(operation: &str, call: impl Fn(&Vector, &str)) {
                 made += 1;
             }
         }
+        let called = operations.contains(&operation);
+        let expected = if called { times } else { 0 };
         assert_eq!(made, expected, "{operation} lines of {name}");
     }
 }
@@ -273,13 +306,18 @@ fn every_search_line() {
     run("search", |vector, at| vector.run_search(at));
 }
 
-/// Each call is of one of the four operations, and has an answer.
+#[test]
+fn every_bench_line() {
+    run("bench", |vector, at| vector.run_bench(at));
+}
+
+/// Each call is of one of the file's operations, and has an answer.
 #[test]
 fn no_line_is_left_out() {
-    for (name, calls) in FILES {
+    for (name, operations, times) in FILES {
         for part in ["calls", "answers"] {
             let lines = text(part, name).lines().count();
-            assert_eq!(lines, 4 * calls, "lines of {part}/{name}");
+            assert_eq!(lines, operations.len() * times, "lines of {part}/{name}");
         }
     }
 }
@@ -292,6 +330,6 @@ fn no_file_is_left_out() {
             .map(|entry| entry.expect("a file").file_name())
             .collect();
         names.sort();
-        assert_eq!(names, FILES.map(|(name, _)| name), "files of {part}");
+        assert_eq!(names, FILES.map(|(name, ..)| name), "files of {part}");
     }
 }

@@ -72,35 +72,30 @@ fn main() -> ExitCode {
     ExitCode::FAILURE
 }
 
-/// Prints a difference and how to see it again, and writes its block and arguments.
+/// Prints a difference and how to see it again, and writes its block, text and other arguments.
 fn report(seed: u64, difference: &Difference) {
     let number = difference.number;
     println!("difference in block {number}: {}", difference.seen);
     println!("again: ./soak --seed {seed} --only {number}");
     let folder = Path::new(FOLDER);
     let name = format!("seed{seed}_block{number}");
+    let arguments = &difference.arguments;
+    let write = |kind: &str, bytes: &[u8]| fs::write(folder.join(format!("{name}.{kind}")), bytes);
     let written = fs::create_dir_all(folder)
-        .and_then(|()| {
-            fs::write(
-                folder.join(format!("{name}.blk")),
-                &difference.arguments.file,
-            )
-        })
-        .and_then(|()| {
-            let text = described(&difference.arguments);
-            fs::write(folder.join(format!("{name}.txt")), text)
-        });
+        .and_then(|()| write("blk", &arguments.file))
+        .and_then(|()| write("bench", &arguments.text))
+        .and_then(|()| write("txt", described(arguments).as_bytes()));
     match written {
-        Ok(()) => println!("written: target/soak/{name}.blk and {name}.txt"),
+        Ok(()) => println!("written: target/soak/{name}.blk, {name}.bench and {name}.txt"),
         Err(error) => eprintln!("{name} was not written: {error}"),
     }
 }
 
-/// The arguments beside the file. What the buffers hold follows from seed and number.
+/// The arguments beside file and text. What the buffers hold follows from seed and number.
 fn described(arguments: &Arguments) -> String {
     format!(
         "hop limit {}\nratio {}\nbudget {}\ntable {:?}\npattern {:?}\nsheet {} words\n\
-         work buffer {} bytes\ncase store {} bytes\n",
+         work buffer {} bytes\ncase store {} bytes\nlist {:?}\nrecord buffer {} bytes\n",
         arguments.hop_limit,
         arguments.ratio,
         arguments.budget,
@@ -109,5 +104,7 @@ fn described(arguments: &Arguments) -> String {
         arguments.sheet.len(),
         arguments.work.len(),
         arguments.store.len(),
+        arguments.list,
+        arguments.records.len(),
     )
 }

@@ -1,16 +1,18 @@
-//! The arguments of Envelope, Simulate and Search.
+//! The arguments of the operations.
 
-use super::{Random, Record};
+use super::{plain_list, spread_text, Line, Random, Record};
 use zimgurav::kind::INPUT;
-use zimgurav::{store_bytes, work_bytes, Word, CONTACTS, MOST_NODES, PATTERN_BYTES, SHEET_WORDS};
+use zimgurav::{
+    store_bytes, work_bytes, Word, BLOCK_BYTES, CONTACTS, MOST_NODES, PATTERN_BYTES, SHEET_WORDS,
+};
 
 /// What a word of the sheet holds before a call.
 const UNUSED_WORD: Word = 0xeeee_eeee;
 
-/// What a byte of the work buffer and of the case store holds before a call.
+/// What a byte of the work buffer, of the case store and of the record buffer holds before a call.
 const UNUSED_BYTE: u8 = 0xee;
 
-/// Everything that Envelope, Simulate and Search take and are lent.
+/// Everything that the operations take and are lent.
 #[derive(Clone, Debug, PartialEq, Eq)]
 pub struct Arguments {
     pub file: Vec<u8>,
@@ -22,12 +24,15 @@ pub struct Arguments {
     pub pattern: Vec<u8>,
     pub work: Vec<u8>,
     pub store: Vec<u8>,
+    pub text: Vec<u8>,
+    pub list: Vec<u8>,
+    pub records: Vec<u8>,
 }
 
 impl Arguments {
     /// Accepted arguments for a valid block: 10 hops, one node of resistances of 1, ratio 1,000,
-    /// budget 200, at each input the first allowed of l, h, hl, lh, and buffers as short as they
-    /// may be.
+    /// budget 200, at each input the first allowed of l, h, hl, lh, a text of one input, the plain
+    /// list, and buffers as short as they may be.
     pub fn new(block: &[Record]) -> Self {
         let mut pattern = vec![0; PATTERN_BYTES];
         for (byte, input) in pattern.iter_mut().zip(inputs(block)) {
@@ -43,7 +48,17 @@ impl Arguments {
             pattern,
             work: vec![UNUSED_BYTE; work_bytes(block.len() as u64)],
             store: vec![UNUSED_BYTE; store_bytes(200)],
+            text: b"INPUT(a)".to_vec(),
+            list: plain_list(),
+            records: vec![UNUSED_BYTE; BLOCK_BYTES],
         }
+    }
+
+    /// Accepted arguments with this text, if that is accepted with the plain list.
+    pub fn of_text(text: &[u8]) -> Self {
+        let mut arguments = Arguments::new(&[]);
+        arguments.text = text.to_vec();
+        arguments
     }
 
     /// The same with this budget, and a case store as short as it may be.
@@ -82,6 +97,16 @@ impl Arguments {
         }
         arguments.sheet.fill_with(|| random.bits() as Word);
         arguments
+    }
+
+    /// Lends the lines as a text with random blanks and comments, their list, and a record buffer of
+    /// noise, which may be longer than it has to be.
+    pub fn lend_text(&mut self, random: &mut Random, lines: &[Line], list: Vec<u8>) {
+        self.text = spread_text(random, lines);
+        self.list = list;
+        let length = BLOCK_BYTES + random.pick(&[0, 1, 19, 20, 5000]);
+        self.records.resize(length, 0);
+        self.records.fill_with(|| random.byte(0, 255));
     }
 }
 

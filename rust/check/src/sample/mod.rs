@@ -1,10 +1,14 @@
-//! What to test and measure with: records byte by byte, random valid blocks, the arguments of a call, and
-//! damage to files and arguments.
+//! What to test and measure with: records byte by byte, random valid blocks, bench texts, the arguments of a
+//! call, and damage to files, texts and arguments.
 
 mod arguments;
 mod block;
 mod damage;
+mod names;
+mod netlist;
 mod random;
+mod text;
+mod text_damage;
 
 pub use arguments::{allowed, patterns, Arguments};
 pub use block::{
@@ -12,4 +16,8 @@ pub use block::{
     Record, Shape,
 };
 pub use damage::{damage, noise, spoil};
+pub use names::names;
+pub use netlist::{lines, pins, plain_list, Netlist};
 pub use random::Random;
+pub use text::{plain_text, spread_text, Line, BLANKS, KIND_WORDS};
+pub use text_damage::lend_random_text;

@@ -1,8 +1,10 @@
-//! The second implementation of document 01, written from the paper alone and for obviousness.
+//! The second implementation of document 01 and of the bench texts added to it, written from the paper alone
+//! and for obviousness.
 //!
 //! The proved library is tested against it, and timed beside it.
 
 mod arguments;
+mod bench;
 mod block;
 mod current;
 mod envelope;
@@ -14,6 +16,7 @@ mod search;
 mod simulate;
 mod waveform;
 
+pub use bench::bench;
 pub use envelope::{envelope, gates_filled};
 pub use read::read;
 pub use search::search;

@@ -66,7 +66,8 @@ fn check_record(record: &Record, net: usize, before: &Before) -> Result<(), Refu
     let place = net as u64;
     refuse_if(kind_is_unknown(record), 4, place)?;
     refuse_if(input_is_after_a_gate_or_the_65th(record, before), 5, place)?;
-    refuse_if(pin_count_is_wrong(record), 6, place)?;
+    let pin_count = record.pin_count.into();
+    refuse_if(pin_count_is_wrong(record.kind, pin_count), 6, place)?;
     refuse_if(byte_meant_to_be_zero_is_not(record), 7, place)?;
     refuse_if(used_pin_is_not_below_its_net(record, net), 8, place)?;
     refuse_if(value_is_outside_its_range(record), 9, place)?;
@@ -116,10 +117,10 @@ fn input_is_after_a_gate_or_the_65th(record: &Record, before: &Before) -> bool {
 ///
 /// Kinds 2 to 5 take 2 to 4 pins, as do 6 and 7; 8 and 9 take 1. An input is no
 /// gate, so this refusal never falls on it.
-fn pin_count_is_wrong(record: &Record) -> bool {
-    match record.kind {
-        kind::AND..=kind::NOR | kind::XOR..=kind::XNOR => !(2..=4).contains(&record.pin_count),
-        kind::NOT..=kind::BUF => record.pin_count != 1,
+pub fn pin_count_is_wrong(kind: u8, pin_count: usize) -> bool {
+    match kind {
+        kind::AND..=kind::NOR | kind::XOR..=kind::XNOR => !(2..=4).contains(&pin_count),
+        kind::NOT..=kind::BUF => pin_count != 1,
         _ => false,
     }
 }
@@ -151,7 +152,7 @@ fn used_pin_is_not_below_its_net(record: &Record, net: usize) -> bool {
 /// 15), is outside its range.
 ///
 /// The contact is 0 to 15, the delay 1 to 63, the rise and the fall each 1 to 127.
-fn value_is_outside_its_range(record: &Record) -> bool {
+pub fn value_is_outside_its_range(record: &Record) -> bool {
     if record.is_gate() {
         record.contact > 15
             || !(1..=63).contains(&record.delay)

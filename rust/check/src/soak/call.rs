@@ -1,7 +1,8 @@
 //! Random calls, each short enough for the second implementation.
 
 use crate::sample::{
-    block_with_a_cap, block_with_gaps, damage, noise, spoil, Arguments, Random, Record, Shape,
+    block_with_a_cap, block_with_gaps, damage, lend_random_text, noise, spoil, Arguments, Random,
+    Record, Shape,
 };
 use zimgurav::kind::INPUT;
 use zimgurav::{store_bytes, MOST_BUDGET, RECORD_BYTES};
@@ -14,7 +15,7 @@ const MOST_EVALUATED: u64 = 40_000;
 /// and one of each child for the sheet.
 const EVALUATIONS_OF_A_SPLIT: u64 = 12;
 
-/// A random block and the arguments of a call: mostly valid, sometimes damaged or spoilt.
+/// A random block, the arguments of a call and a bench text: mostly valid, sometimes damaged or spoilt.
 pub fn random_call(random: &mut Random) -> Arguments {
     let block = random_block(random);
     let budget = random.pick(&[7, 7, 20, 20, 60, 60, 60, 60, 60, 60, 400, 400, 400, 10_000]);
@@ -32,6 +33,8 @@ pub fn random_call(random: &mut Random) -> Arguments {
         spoil(random, &mut arguments);
     }
     bound_splits(&mut arguments);
+    let records = random_length(random);
+    lend_random_text(random, records, &mut arguments);
     arguments
 }
 

@@ -3,12 +3,15 @@
 use std::fmt;
 use std::time::Duration;
 
-use crate::sample::Arguments;
+use crate::sample::{Arguments, KIND_WORDS};
 use zimgurav::kind::INPUT;
 use zimgurav::{Counts, Found, Outcome, Refusal, CONTACTS, RECORD_BYTES};
 
 /// The operations, in the order in which their answers are counted.
-pub const OPERATIONS: [&str; 4] = ["Read", "Envelope", "Simulate", "Search"];
+pub const OPERATIONS: [&str; 5] = ["Read", "Envelope", "Simulate", "Search", "Bench"];
+
+/// The accepted calls of an operation, then its refusals by number.
+type Answers = [u64; 19];
 
 /// The least numbers of records of the size classes, and the classes' names.
 const SIZES: [(usize, &str); 7] = [
@@ -32,9 +35,6 @@ const INPUTS: [(usize, &str); 5] = [
 
 /// The least numbers of bus nodes of the classes, and the classes' names.
 const NODES: [(usize, &str); 4] = [(1, "1"), (2, "2 to 8"), (9, "9 to 15"), (16, "16")];
-
-/// The kinds of gates, from 2 on.
-const GATES: [&str; 8] = ["AND", "NAND", "OR", "NOR", "XOR", "XNOR", "NOT", "BUF"];
 
 /// A sum of numbers and the greatest of them.
 #[derive(Default)]
@@ -69,8 +69,7 @@ pub struct Coverage {
     /// Cases, in the stores at the end, whose upper number is their parent's and not their own.
     pub capped: u64,
     sizes: [u64; 7],
-    /// For each operation the accepted calls, then the refusals by number.
-    answers: [[u64; 17]; 4],
+    answers: [Answers; 5],
     inputs: [u64; 5],
     kinds: [u64; 8],
     pins: [u64; 4],
@@ -83,6 +82,8 @@ pub struct Coverage {
     outcomes: [[u64; 2]; 3],
     splits: Total,
     cases: Total,
+    /// Records of accepted texts.
+    records: Total,
 }
 
 /// Counts a number in its class, the last whose least number it reaches.
@@ -125,6 +126,11 @@ impl Coverage {
         self.splits.add(found.splits);
         self.cases.add(found.cases);
     }
+
+    /// Counts an accepted text of so many records.
+    pub fn count_text(&mut self, records: u64) {
+        self.records.add(records);
+    }
 }
 
 /// The counts of classes behind their names.
@@ -142,9 +148,9 @@ fn classes(classes: &[(usize, &'static str)], counts: &[u64]) -> String {
 }
 
 /// A line for each operation: the accepted calls, then the refusals by number.
-fn write_answers(f: &mut fmt::Formatter, answers: &[[u64; 17]; 4]) -> fmt::Result {
+fn write_answers(f: &mut fmt::Formatter, answers: &[Answers; 5]) -> fmt::Result {
     write!(f, "answers   accepted")?;
-    for number in 1..=16 {
+    for number in 1..=18 {
         write!(f, "{number:>6}")?;
     }
     for (operation, counts) in OPERATIONS.iter().zip(answers) {
@@ -165,7 +171,7 @@ impl fmt::Display for Coverage {
         writeln!(f, "records   {}", classes(&SIZES, &self.sizes))?;
         write_answers(f, &self.answers)?;
         writeln!(f, "inputs    {}", classes(&INPUTS, &self.inputs))?;
-        writeln!(f, "gates     {}", named(GATES, &self.kinds))?;
+        writeln!(f, "gates     {}", named(KIND_WORDS, &self.kinds))?;
         writeln!(f, "pins      {}", named(["1", "2", "3", "4"], &self.pins))?;
         writeln!(f, "nodes     {}", classes(&NODES, &self.nodes))?;
         writeln!(f, "hops      1 to 16: {:?}", self.hop_limits)?;
@@ -178,6 +184,7 @@ impl fmt::Display for Coverage {
         }
         writeln!(f, "splits    {}", self.splits)?;
         writeln!(f, "cases     {}; {} capped", self.cases, self.capped)?;
-        write!(f, "patterns  {} held against searches", self.patterns)
+        writeln!(f, "patterns  {} held against searches", self.patterns)?;
+        write!(f, "texts     records {}", self.records)
     }
 }

@@ -79,7 +79,8 @@ fn soak_block(
     })
 }
 
-/// Makes all four calls in both implementations, and holds simulations against an accepted search.
+/// Makes all calls in both implementations, holds simulations against an accepted search, and reads the records
+/// of an accepted text.
 fn compare_calls(
     pair: &[Implementation; 2],
     arguments: &Arguments,
@@ -111,7 +112,30 @@ fn compare_calls(
         hold_against_simulations(&pair[0], &Searched { lent, found }, random, coverage)
             .map_err(|seen| format!("Search against Simulate: {seen}"))?;
     }
+
+    let bench = compare(pair, Implementation::bench, arguments).map_err(in_operation(4))?;
+    coverage.count_answer(4, &bench.answer);
+    if let Ok(records) = bench.answer {
+        coverage.count_text(records);
+        read_again(&pair[0], bench.after, records)
+            .map_err(|seen| format!("Bench against Read: {seen}"))?;
+    }
     Ok(())
+}
+
+/// The records that an accepted text left are a block of as many nets.
+fn read_again(
+    implementation: &Implementation,
+    mut after: Arguments,
+    records: u64,
+) -> Result<(), String> {
+    let file = after.records.get(..RECORD_BYTES * records as usize);
+    after.file = file.ok_or("more records than the buffer has")?.to_vec();
+    match implementation.read(&mut after) {
+        Ok(counts) if counts.nets == records => Ok(()),
+        Ok(counts) => Err(format!("{records} records, {} nets", counts.nets)),
+        Err(refusal) => Err(format!("the records are {refusal}")),
+    }
 }
 
 /// An accepted search has the right outcome, hands over a pattern that drops L, and is above random
@@ -162,6 +186,8 @@ mod tests {
             (faults::SHEET_UNTOUCHED, "Simulate: "),
             (faults::STORE_CLEARED, "Search: "),
             (faults::HIGH_LOWER, "Search: "),
+            (faults::HIGH_COUNT, "Bench: "),
+            (faults::RECORDS_CLEARED, "Bench: "),
         ];
         for (wrong, operation) in faults {
             let (_, found) = soak(&[wrong, SECOND], 1, 0..60, HOUR);
@@ -172,11 +198,14 @@ mod tests {
         }
     }
 
-    /// Two implementations that are wrong in the same way agree, but not with the simulations.
+    /// Two implementations that are wrong in the same way agree, but not with the simulations or with Read.
     #[test]
     fn finds_a_common_fault() {
         let (_, found) = soak(&[faults::HIGH_LOWER; 2], 1, 0..60, HOUR);
         let seen = found.expect("a difference").seen;
         assert!(seen.starts_with("Search against Simulate: "), "{seen}");
+        let (_, found) = soak(&[faults::HIGH_COUNT; 2], 1, 0..60, HOUR);
+        let seen = found.expect("a difference").seen;
+        assert!(seen.starts_with("Bench against Read: "), "{seen}");
     }
 }
