@@ -220,6 +220,17 @@ read-back (gate name word pins) r =
     read-gate name word pins (gate-named name word pins r) (gate-pins name word pins r) (gate-counted name word pins r)
 read-back none r = absurd (false≢true r)
 
-pub one-form : OneForm
+written : (line : List ℕ) → formRight (lineForm line) ≡ true → content line ≡ writtenForm (lineForm line)
 unfolding lineForm
-one-form = record { written = λ line r. form-written (parted (content line)) r; read-back = read-back }
+written line r = form-written (parted (content line)) r
+
+-- A form as it is written has nothing that content would leave out.
+formed : (line : List ℕ) (form : Form) → formRight form ≡ true → content line ≡ writtenForm form → lineForm line ≡ form
+unfolding lineForm
+formed line form r e =
+    let back = read-back form r in
+    let whole = written (writtenForm form) (ap formRight back ∙ r) ∙ ap writtenForm back in
+    ap (λ c. formOf (partsOf c)) (e ∙ sym whole) ∙ back
+
+pub one-form : OneForm
+one-form = record { written = written; formed = formed; read-back = read-back }

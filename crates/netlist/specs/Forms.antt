@@ -34,7 +34,8 @@ unfoldable pub partsOf : List ℕ → List Part
 partsOf [] = part [] End ∷ []
 partsOf (byte ∷ rest) = cond (isLetter byte) (begunBy byte (partsOf rest)) (part [] (markOf byte) ∷ partsOf rest)
 
--- What a line says: nothing, `INPUT(name)`, `OUTPUT(name)`, `name=KIND(name,...)`, or what fits no form.
+-- What a line says: nothing, `INPUT(name)`, `OUTPUT(name)`, `name=KIND(name,...)`, or what fits no form. `Written.antt` writes each form
+-- out; by the law `one-form` a line is right exactly where what is left of it is a right form, so written.
 pub data Form : Type 0 where
   empty : Form
   input : Letters → Form

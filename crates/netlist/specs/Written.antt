@@ -22,7 +22,9 @@ writtenForm (output name) = ascii "OUTPUT(" ++ name ++ ascii ")"
 writtenForm (gate name word pins) = name ++ ascii "=" ++ word ++ ascii "(" ++ divided pins ++ ascii ")"
 writtenForm none = []
 
--- What is left of a right line is its form, written; and a right form, written, is a line of that form.
+-- What is left of a right line is its form, written; a line of which a right form, written, is left has that form; and a right form,
+-- written, is such a line.
 pub record OneForm : Type 0 where
   pub written : (line : List ℕ) → formRight (lineForm line) ≡ true → content line ≡ writtenForm (lineForm line)
+  pub formed : (line : List ℕ) (form : Form) → formRight form ≡ true → content line ≡ writtenForm form → lineForm line ≡ form
   pub read-back : (form : Form) → formRight form ≡ true → lineForm (writtenForm form) ≡ form
