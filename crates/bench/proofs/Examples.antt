@@ -15,7 +15,7 @@ use Rattle.netlist.specs.Forms.{markOf, partsOf, ended, closed, bracketed, decl
 use Rattle.bench.specs.Checks.{sizeChecks, rowInRange, rowsFrom, namesRight, lineChecks, linesFrom}
 use Rattle.bench.specs.Records.{pinNet, gateRecord, recordOf, recordsFrom}
 use Rattle.bench.specs.Bench.{benchRecords, lentChecks, textChecks, benchChecks, benchVerdict}
-use Rattle.bench.specs.Examples.{BenchExamples}
+use Rattle.bench.specs.Examples.{inputLines, BenchExamples}
 
 pub bench-examples : BenchExamples
 unfolding allBelow maxBelow countBelow inTurn listBelow isInput kindOf latestPin arrivalFrom arrivals inputsBelow switchingTick gateOf
@@ -24,7 +24,7 @@ unfolding allBelow maxBelow countBelow inTurn listBelow isInput kindOf latestPin
     read.inputChecks read.gateChecks read.fieldChecks read.recordChecks read.recordsFrom read.readChecks linesOf uncommented isBlank
     withoutBlanks content isLetter lettered isName areNames same known allKnown position markOf partsOf ended closed bracketed declaring
     declared assigned formOf lineForm kindNamed pinsAllowed formRight givenBy sizeChecks rowInRange rowsFrom namesRight lineChecks
-    linesFrom pinNet gateRecord recordOf recordsFrom benchRecords lentChecks textChecks benchChecks benchVerdict
+    linesFrom inputLines pinNet gateRecord recordOf recordsFrom benchRecords lentChecks textChecks benchChecks benchVerdict
 bench-examples = record {
   input-line = refl;
   output-line = refl;
@@ -57,6 +57,8 @@ bench-examples = record {
   refused-row = refl;
   refused-call = refl;
   refused-empty = (refl, refl);
+  refused-inputs = (refl, refl);
+  refused-arrival = (refl, refl);
   turned-records = refl;
   buff-record = refl;
   low-byte-first = refl;

@@ -1,5 +1,5 @@
 -- Bench texts, and what the definitions say of them: each form of a line, each refusal, and the records of c17.
-use Prim.Native.Nat.{ℕ, _+_}
+use Prim.Native.Nat.{ℕ, zero, suc, _+_}
 use Prim.Native.String.{String}
 use mathlib.Core.Bool.{false}
 use mathlib.Core.List.{List, [], _∷_, _++_}
@@ -52,6 +52,23 @@ c17 =
 abbrev pub turned : List ℕ
 turned = line "INPUT(a)" ++ line "INPUT(b)" ++ line "c=XOR(b,a)"
 
+-- The verdict on a text whose buffers have the longest delay, 63; and a chain of four of them.
+abbrev pub onSlowText : List ℕ → Verdict
+onSlowText text = verdict (textChecks (record { text = text; list = set rows 57 63; records = [] }))
+
+abbrev pub chain : List ℕ
+chain = line "INPUT(a)" ++ line "b=BUF(a)" ++ line "c=BUF(b)" ++ line "d=BUF(c)" ++ line "e=BUF(d)"
+
+-- Lines of n inputs, named by a letter and a digit, and lines of 64.
+unfoldable pub inputLines : ℕ → ℕ → List ℕ
+inputLines letter zero = []
+inputLines letter (suc n) = inputLines letter n ++ (ascii "INPUT(" ++ (letter ∷ (48 + n) ∷ line ")"))
+
+abbrev pub inputs : List ℕ
+inputs =
+    inputLines 97 8 ++ inputLines 98 8 ++ inputLines 99 8 ++ inputLines 100 8 ++ inputLines 101 8 ++ inputLines 102 8 ++ inputLines 103 8
+    ++ inputLines 104 8
+
 pub record BenchExamples : Type 0 where
   -- The three forms.
   pub input-line : lineForm (ascii "INPUT(a)") ≡ input (ascii "a")
@@ -94,6 +111,9 @@ pub record BenchExamples : Type 0 where
   pub refused-call : benchVerdict (call (line "a") []) ≡ Refused (refusal 15 1)
   -- Refusal 3, as Read makes it of no record.
   pub refused-empty : (onText [] ≡ Refused (refusal 3 0)) × (onText (line "OUTPUT(a)") ≡ Refused (refusal 3 0))
+  -- Refusals 5, of a 65th input, and 10, of the first gate that arrives after tick 255, as Read makes them, each with its net.
+  pub refused-inputs : (onText inputs ≡ Accepted) × (onText (inputs ++ line "INPUT(i)") ≡ Refused (refusal 5 64))
+  pub refused-arrival : (onSlowText chain ≡ Accepted) × (onSlowText (chain ++ line "f=BUF(e)") ≡ Refused (refusal 10 5))
   -- Each byte of three records: pins as written, and the row of the gate's kind.
   pub turned-records : records turned
       ≡ (1 ∷ 0 ∷ 0 ∷ 0 ∷ 0 ∷ 0 ∷ 0 ∷ 0 ∷ 0 ∷ 0 ∷ 0 ∷ 0 ∷ 0 ∷ 0 ∷ 0 ∷ 0 ∷ 0 ∷ 0 ∷ 15 ∷ 0
