@@ -10,7 +10,7 @@ use Rattle.block.specs.Block.{latestPin, arrivalFrom, arrivals, inputsBelow, sw
 use Rattle.block.specs.Verdict.{verdict}
 use Rattle.block.specs.Refusals as read
 use Rattle.netlist.specs.Lines.{linesOf, uncommented, isBlank, withoutBlanks, content}
-use Rattle.netlist.specs.Names.{isLetter, lettered, isName, areNames, same, known, allKnown, position}
+use Rattle.netlist.specs.Names.{isLetterOrDigit, lettered, isName, areNames, same, known, allKnown, position}
 use Rattle.netlist.specs.Forms.{markOf, partsOf, ended, closed, bracketed, declaring, declared, assigned, formOf, lineForm, kindNamed, pinsAllowed, formRight, givenBy}
 use Rattle.bench.specs.Checks.{sizeChecks, rowInRange, rowsFrom, namesRight, lineChecks, linesFrom}
 use Rattle.bench.specs.Records.{pinNet, gateRecord, recordOf, recordsFrom}
@@ -22,7 +22,7 @@ unfolding allBelow maxBelow countBelow inTurn listBelow isInput kindOf latestPin
     verdict read.within read.zeroBytes read.startsWithInput read.fileChecks read.kindKnown read.inputInPlace read.pinCountRight
     read.inputSpareZero read.unusedPinsZero read.gateSpareZero read.pinsBelow read.gateInRange read.inputInRange read.arrivalInTime
     read.inputChecks read.gateChecks read.fieldChecks read.recordChecks read.recordsFrom read.readChecks linesOf uncommented isBlank
-    withoutBlanks content isLetter lettered isName areNames same known allKnown position markOf partsOf ended closed bracketed declaring
+    withoutBlanks content isLetterOrDigit lettered isName areNames same known allKnown position markOf partsOf ended closed bracketed declaring
     declared assigned formOf lineForm kindNamed pinsAllowed formRight givenBy sizeChecks rowInRange rowsFrom namesRight lineChecks
     linesFrom inputLines pinNet gateRecord recordOf recordsFrom benchRecords lentChecks textChecks benchChecks benchVerdict
 bench-examples = record {

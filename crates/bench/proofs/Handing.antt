@@ -30,7 +30,7 @@ use Rattle.bench.specs.Held.{TextTaken}
 module _ (made : File) (given : List ℕ) where
   -- A refusal is the answer, and nothing is changed.
   handed-refusal : {v : Verdict} (r : Refusal) → v ≡ Refused r → Handed v made given (answer.Refused r) given
-  handed-refusal r e = rw e (record { answer = refl; buffer = refl })
+  handed-refusal r e = rw e (record { answered = refl; written = refl })
 
   -- Two verdicts that are the same ask the same.
   handed-by : {v w : Verdict} {answered : BenchAnswer} {records′ : List ℕ} → v ≡ w
@@ -51,7 +51,7 @@ module _ (made : File) (given : List ℕ) where
   read-counts {nets = nets} {inputs = inputs} is told copied =
       let counts = counts-of made (verdict (readChecks made)) nets inputs (sym is ∙ told) in
       let whole = ap (λ l. l ++ drop (length made) given) (take-length made) in
-      rw (counts .0) (record { answer = ap answer.Count (sym (counts .1)); buffer = copied ∙ whole })
+      rw (counts .0) (record { answered = ap answer.Count (sym (counts .1)); written = copied ∙ whole })
 
 -- The lines' refusal, or what Read says of their records, is what the call comes to once all that is lent is right.
 module _ (given : BenchArguments) {made′ : List ℕ} {r : Taken} (all : TextTaken (given .text) (given .list) made′ r) where
@@ -74,9 +74,9 @@ module _ (given : BenchArguments) {made′ : List ℕ} {r : Taken} (all : TextTa
 module _ (given : BenchArguments) {lent : Verdict} (judged : lent ≡ verdict (lentChecks given)) where
   pub lent-refused : (q : Refusal) → lent ≡ Refused q → Benched given (answer.Refused q) (given .records)
   unfolding benchVerdict benchChecks
-  lent-refused q e = record { handed = handed-refusal _ _ q (refused-first (lentChecks given) (textChecks given) q (sym judged ∙ e)) }
+  lent-refused q e = handed-refusal _ _ q (refused-first (lentChecks given) (textChecks given) q (sym judged ∙ e))
 
   pub lent-accepted : {answered : BenchAnswer} {records′ : List ℕ} → lent ≡ Accepted
       → Handed (verdict (textChecks given)) (benchRecords given) (given .records) answered records′ → Benched given answered records′
   unfolding benchVerdict benchChecks
-  lent-accepted e h = record { handed = handed-by _ _ (sym (accepted-first (lentChecks given) (textChecks given) (sym judged ∙ e))) h }
+  lent-accepted e h = handed-by _ _ (sym (accepted-first (lentChecks given) (textChecks given) (sym judged ∙ e))) h

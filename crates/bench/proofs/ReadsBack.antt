@@ -206,8 +206,8 @@ pub bench-law : BenchLaw
 unfolding overlaid benchRecords
 bench-law given count records′ b =
     let made = benchRecords given in
-    let c = counted (benchVerdict given) count (netCount made) (b .handed .answer) in
+    let c = counted (benchVerdict given) count (netCount made) (b .answered) in
     let long = records-length (given .list) [] (formsOf (given .text)) in
-    let written : records′ ≡ made ++ drop (length made) (given .records) = rw (c .0) at (b .handed .buffer) in
+    let written : records′ ≡ made ++ drop (length made) (given .records) = rw (c .0) at (b .written) in
     let file-is : take (20 * count) records′ ≡ made = rw written (take-at made _ (20 * count) (omega arith)) in
     rw file-is (c .1, records-back given (c .0))

@@ -10,9 +10,9 @@ use Rattle.block.specs.Verdict.{Check, verdict}
 use Rattle.block.specs.declared.Verdict.{Verdict}
 use Rattle.block.specs.declared.Verdict.the-variants.{Accepted, Refused}
 use Rattle.operation.specs.Operation.{bufferAfter}
-use Rattle.netlist.specs.Forms.{Form, formsOf}
+use Rattle.netlist.specs.Forms.{formsOf}
 use Rattle.bench.specs.declared.BenchAnswer.{BenchAnswer}
-use Rattle.bench.specs.declared.BenchAnswer.the-variants as answer
+use Rattle.bench.specs.declared.BenchAnswer.the-variants as answer-is
 use Rattle.bench.specs.Checks.{sizeChecks, rowsFrom, linesFrom}
 use Rattle.bench.specs.Records.{recordsFrom}
 
@@ -42,18 +42,18 @@ benchVerdict given = verdict (benchChecks given)
 
 -- "The record count is returned", or the refusal.
 abbrev pub benchAnswerAfter : Verdict → ℕ → BenchAnswer
-benchAnswerAfter Accepted count = answer.Count count
-benchAnswerAfter (Refused r) count = answer.Refused r
+benchAnswerAfter Accepted count = answer-is.Count count
+benchAnswerAfter (Refused r) count = answer-is.Refused r
 
 -- "Bytes past the records are unchanged."
 unfoldable pub overlaid : File → List ℕ → List ℕ
 overlaid made given = made ++ drop (length made) given
 
 -- By a verdict, the answer and each byte of the record buffer, of which a refusal changes none.
-pub record Handed (v : Verdict) (made : File) (given : List ℕ) (answered : BenchAnswer) (records′ : List ℕ) : Type 0 where
-  pub answer : answered ≡ benchAnswerAfter v (netCount made)
-  pub buffer : records′ ≡ bufferAfter v (overlaid made given) given
+pub record Handed (v : Verdict) (made : File) (given : List ℕ) (answer : BenchAnswer) (records′ : List ℕ) : Type 0 where
+  pub answered : answer ≡ benchAnswerAfter v (netCount made)
+  pub written : records′ ≡ bufferAfter v (overlaid made given) given
 
--- The promise.
-pub record Benched (given : BenchArguments) (answered : BenchAnswer) (records′ : List ℕ) : Type 0 where
-  pub handed : Handed (benchVerdict given) (benchRecords given) (given .records) answered records′
+-- What Bench promises: by the verdict on all checks, its answer, and the record buffer as it leaves it.
+abbrev pub Benched : BenchArguments → BenchAnswer → List ℕ → Type 0
+Benched given answer records′ = Handed (benchVerdict given) (benchRecords given) (given .records) answer records′

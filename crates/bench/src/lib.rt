@@ -1,11 +1,11 @@
 // Bench netlists: the records of a block from its text.
 ghost use mathlib.Core.Path.{_≡_};
+ghost use mathlib.Core.List.{_++_};
 ghost use Prim.Native.Nat.{_*_, _≤_};
 ghost use lib.ListN.{length};
 ghost use Rattle.block.specs.Verdict.{verdict};
-ghost use mathlib.Core.List.{_++_};
-ghost use Rattle.bench.specs.Checks.{sizeChecks, rowsFrom, rowInRange};
 ghost use Rattle.block.specs.Refusals.{readChecks};
+ghost use Rattle.bench.specs.Checks.{sizeChecks, rowsFrom, rowInRange};
 ghost use Rattle.bench.specs.Bench.{Handed, textChecks, benchRecords, Benched};
 use block::ReadAnswer;
 use block::Refusal;
@@ -110,7 +110,8 @@ fn hand_over(made: &[u8], records: &mut [u8]) -> BenchAnswer
     }
 }
 
-// Takes the lines of a text and makes their records in arrays of its own, so that nothing is lent before every check has passed.
+// Takes the lines of a text and makes their records in arrays of its own, so that the lent buffer is written only once every check has
+// passed.
 fn make(text: &[u8], list: &[u8], records: &mut [u8]) -> BenchAnswer
     requires { ⌜ (length (now list) ≡ 64) × (20480 ≤ length (now records)) ⌝ }
     ensures { λ r. ⌜ Handed (verdict (textChecks (record { text = now (text .entry); list = now (list .entry); records = now (records .entry) }))) (benchRecords (record { text = now (text .entry); list = now (list .entry); records = now (records .entry) })) (now (records .entry)) r (now (records .exit)) ⌝ }

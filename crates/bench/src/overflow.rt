@@ -1,9 +1,9 @@
 // The lines after the 1,024th record. No array has their names: they are looked up in the text itself. A text in which one of them gives
 // a record is refused in any case.
 ghost use mathlib.Core.Path.{_≡_};
+ghost use mathlib.Core.Bool.{false};
 ghost use Prim.Native.Nat.{_+_, _≤_};
 ghost use lib.ListN.{length, take, drop};
-ghost use mathlib.Core.Bool.{false};
 ghost use Rattle.block.specs.Verdict.{refusal};
 ghost use Rattle.block.specs.declared.Verdict.the-variants.{Refused};
 ghost use Rattle.netlist.specs.Forms.{formsOf};

@@ -1,6 +1,6 @@
 // The lines of a text, from the first on.
 ghost use mathlib.Core.Path.{_≡_};
-ghost use Prim.Native.Nat.{_≤_, _<_};
+ghost use Prim.Native.Nat.{_<_};
 ghost use lib.ListN.{length};
 ghost use Rattle.netlist.specs.Forms.{lineForm};
 ghost use Rattle.bench.specs.Held.{GivesRecord, RecordTaken, LineRead, Begun, TextTaken};

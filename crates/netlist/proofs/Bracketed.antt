@@ -13,7 +13,7 @@ use Rattle.netlist.specs.declared.Mark.the-variants.{Comma, Close}
 use Rattle.netlist.specs.declared.Name.{Name}
 use Rattle.netlist.specs.declared.Piece.{Piece}
 use Rattle.netlist.specs.Lines.{content}
-use Rattle.netlist.specs.Names.{Letters, isLetter, isName, areNames}
+use Rattle.netlist.specs.Names.{Letters, isLetterOrDigit, isName, areNames}
 use Rattle.netlist.specs.Forms.{Part, part, partsOf, begunBy, ended, closed, bracketed}
 use Rattle.netlist.specs.Kept.{nameKept, wordKept, fourKept, bracketsRight, bracketsKept, wrongNames, noNames, PieceRead}
 use Rattle.netlist.proofs.KnownWords.{names-append}
@@ -38,7 +38,7 @@ parts-some : (content : List ℕ) → 1 ≤ length (partsOf content)
 unfolding partsOf
 parts-some [] = omega arith
 parts-some (byte ∷ rest) =
-    cases (isLetter byte) (λ e. rw e (rw (begun-some byte (partsOf rest)) (parts-some rest))) (λ e. rw e (omega arith))
+    cases (isLetterOrDigit byte) (λ e. rw e (rw (begun-some byte (partsOf rest)) (parts-some rest))) (λ e. rw e (omega arith))
 
 words-some : (parts : List Part) → 1 ≤ length parts → 1 ≤ length (bracketed parts)
 unfolding bracketed

@@ -14,7 +14,7 @@ use Rattle.laws.proofs.Tests.{and-left, and-right, and-first-fails, and-second-
 use Rattle.block.specs.Refusals.{within}
 use Rattle.netlist.specs.declared.Mark.the-variants.{Open}
 use Rattle.netlist.specs.declared.Names.{Names}
-use Rattle.netlist.specs.Names.{Letters, isLetter, lettered, isName, areNames, same}
+use Rattle.netlist.specs.Names.{Letters, isLetterOrDigit, lettered, isName, areNames, same}
 use Rattle.netlist.specs.Forms.{Part, part, closed, bracketed, Form, gate, none, declaring, declared, assigned, formRight}
 use Rattle.netlist.specs.Forms.{kindNamed, pinsAllowed}
 use Rattle.netlist.specs.Kept.{numberOf, shortNumber, nameKept, keptAt, fourKept, noName, bracketsRight, bracketsKept}
@@ -125,7 +125,7 @@ module _ (letters : Letters) (parts : List Part) where
         → lineKept (declared letters parts)
         ≡ cond (eqb number (numberOf (ascii "INPUT"))) (withoutPins true 1 (getD (names .names) 0 noName))
         (cond (eqb number (numberOf (ascii "OUTPUT"))) (withoutPins true 0 noName) wrongLine)
-    unfolding declared fourKept lettered isLetter within
+    unfolding declared fourKept lettered isLetterOrDigit within
     declared-right e l number n =
         let told = or-fails (not (names .right)) (not (eqb (names .used) 1)) e in
         let right = brackets-right parts names is (not-false (names .right) (told .0)) in

@@ -15,7 +15,7 @@ use Rattle.block.specs.Refusals.{within}
 use Rattle.block.proofs.Fields.{within-low, within-high}
 use Rattle.netlist.specs.declared.Name.{Name}
 use Rattle.netlist.specs.declared.Word.{Word}
-use Rattle.netlist.specs.Names.{Letters, isLetter, lettered, isName, same}
+use Rattle.netlist.specs.Names.{Letters, isLetterOrDigit, lettered, isName, same}
 use Rattle.netlist.specs.Kept.{backwards, numberOf, shortNumber, nameKept, wordKept, sameName}
 
 -- Two tests that pass together are the same.
@@ -48,21 +48,21 @@ same-test t u v f g = alike t (same u v) (λ e. rw (f e) (same-self v)) (λ e. g
 within-bytes : (low high byte : ℕ) → 1 ≤ low → high < 256 → within low high byte ≡ true → (1 ≤ byte) × (byte < 256)
 within-bytes low high byte l h t = (omega (arith, within-low low high byte t), omega (arith, within-high low high byte t))
 
-letter-byte : (byte : ℕ) → isLetter byte ≡ true → (1 ≤ byte) × (byte < 256)
-unfolding isLetter
+letter-byte : (byte : ℕ) → isLetterOrDigit byte ≡ true → (1 ≤ byte) × (byte < 256)
+unfolding isLetterOrDigit
 letter-byte byte e =
     or-cases (within 48 57 byte) (within 65 90 byte || within 97 122 byte) e (within-bytes 48 57 byte (omega arith) (omega arith))
     (λ t. or-cases (within 65 90 byte) (within 97 122 byte) t (within-bytes 65 90 byte (omega arith) (omega arith))
     (within-bytes 97 122 byte (omega arith) (omega arith)))
 
 module _ (byte : ℕ) (word : Letters) (proper : lettered (byte ∷ word) ≡ true) where
-  pub first-proper : isLetter byte ≡ true
+  pub first-proper : isLetterOrDigit byte ≡ true
   unfolding lettered
-  first-proper = and-left (isLetter byte) (lettered word) proper
+  first-proper = and-left (isLetterOrDigit byte) (lettered word) proper
 
   pub rest-proper : lettered word ≡ true
   unfolding lettered
-  rest-proper = and-right (isLetter byte) (lettered word) proper
+  rest-proper = and-right (isLetterOrDigit byte) (lettered word) proper
 
 -- Words of letters alone: backwards, the first letters, and what follows them.
 reverseAux-proper : (u v : Letters) → lettered u ≡ true → lettered v ≡ true → lettered (reverseAux u v) ≡ true

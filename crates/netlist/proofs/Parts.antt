@@ -19,7 +19,7 @@ use Rattle.netlist.specs.declared.Mark.the-variants.{End}
 use Rattle.netlist.specs.declared.Piece.{Piece}
 use Rattle.netlist.specs.declared.Word.{Word}
 use Rattle.netlist.specs.Lines.{linesOf, startedBy, isBlank, uncommented, withoutBlanks, content}
-use Rattle.netlist.specs.Names.{Letters, isLetter, lettered}
+use Rattle.netlist.specs.Names.{Letters, isLetterOrDigit, lettered}
 use Rattle.netlist.specs.Forms.{Part, part, partsOf, markOf, begunBy, isEmpty, isEnd}
 use Rattle.netlist.specs.Kept.{wordKept, OfLetters, PieceRead}
 use Rattle.netlist.proofs.Packing.{first-proper, rest-proper}
@@ -34,14 +34,14 @@ lines-first (byte ∷ next ∷ rest) h =
     cases (eqb byte 10) (λ e. rw e refl) (λ e. rw e (ap (startedBy byte) (lines-first (next ∷ rest) (omega arith))))
 
 -- No blank is a letter.
-blank-no-letter : (byte : ℕ) → isBlank byte ≡ true → isLetter byte ≡ false
-unfolding isBlank isLetter within
+blank-no-letter : (byte : ℕ) → isBlank byte ≡ true → isLetterOrDigit byte ≡ false
+unfolding isBlank isLetterOrDigit within
 blank-no-letter byte e =
     or-cases (eqb byte 9) (eqb byte 13 || eqb byte 32) e (λ t. rw (eqb-true byte 9 t) refl)
     (λ s. or-cases (eqb byte 13) (eqb byte 32) s (λ t. rw (eqb-true byte 13 t) refl) (λ t. rw (eqb-true byte 32 t) refl))
 
 -- A letter more of letters alone.
-lettered-more : (letters : Letters) (byte : ℕ) → lettered letters ≡ true → isLetter byte ≡ true
+lettered-more : (letters : Letters) (byte : ℕ) → lettered letters ≡ true → isLetterOrDigit byte ≡ true
     → lettered (letters ++ (byte ∷ [])) ≡ true
 unfolding lettered
 lettered-more [] byte h e = and-both e refl
@@ -84,14 +84,14 @@ module _ (line : List ℕ) (at : ℕ) (inside : at < length line) where
     unfolding content uncommented withoutBlanks
     at-blank e = rw (from-byte, ne-eqb (byteAt line at) 35 other, e) refl
 
-    pub at-letter : isLetter (byteAt line at) ≡ true → partsFrom line at ≡ begunBy (byteAt line at) (partsFrom line (at + 1))
+    pub at-letter : isLetterOrDigit (byteAt line at) ≡ true → partsFrom line at ≡ begunBy (byteAt line at) (partsFrom line (at + 1))
     unfolding content uncommented withoutBlanks partsOf
     at-letter e =
         cases (isBlank (byteAt line at))
         (λ t. absurd (false≢true (sym (blank-no-letter (byteAt line at) t) ∙ e)))
         (λ t. rw (from-byte, ne-eqb (byteAt line at) 35 other, t, e) refl)
 
-    at-mark : isBlank (byteAt line at) ≡ false → isLetter (byteAt line at) ≡ false
+    at-mark : isBlank (byteAt line at) ≡ false → isLetterOrDigit (byteAt line at) ≡ false
         → partsFrom line at ≡ part [] (markOf (byteAt line at)) ∷ partsFrom line (at + 1)
     unfolding content uncommented withoutBlanks partsOf
     at-mark e f = rw (from-byte, ne-eqb (byteAt line at) 35 other, e, f) refl
@@ -140,7 +140,7 @@ module _ (line : List ℕ) (from : ℕ) (word : Word) (at : ℕ) (s : PieceSoFar
     piece-commented e = piece-last (at-comment line at on e)
 
     module _ (other : byteAt line at ≡ 35 → ⊥) where
-      pub piece-letter : (word′ : Word) → isLetter (byteAt line at) ≡ true
+      pub piece-letter : (word′ : Word) → isLetterOrDigit (byteAt line at) ≡ true
           → OfLetters word (λ letters. word′ ≡ wordKept (letters ++ (byteAt line at ∷ []))) → PieceSoFar line from word′ (at + 1)
       piece-letter word′ e kept = record {
         letters = s .letters ++ (byteAt line at ∷ []);
@@ -160,7 +160,7 @@ module _ (line : List ℕ) (from : ℕ) (word : Word) (at : ℕ) (s : PieceSoFar
         inside = omega arith;
       }
 
-      pub piece-marked : (mark : Mark) → isBlank (byteAt line at) ≡ false → isLetter (byteAt line at) ≡ false
+      pub piece-marked : (mark : Mark) → isBlank (byteAt line at) ≡ false → isLetterOrDigit (byteAt line at) ≡ false
           → mark ≡ markOf (byteAt line at) → PieceRead line from (record { word = word; mark = mark; next = at + 1 })
       piece-marked mark e f m =
           piece-read line from at (at + 1) word mark (partsFrom line (at + 1)) s

@@ -15,7 +15,7 @@ use Rattle.block.specs.Refusals.{within}
 use Rattle.netlist.specs.declared.Mark.{Mark}
 use Rattle.netlist.specs.declared.Mark.the-variants.{Equals, Open, Comma, Close, Other, End}
 use Rattle.netlist.specs.Lines.{uncommented, isBlank, withoutBlanks, content}
-use Rattle.netlist.specs.Names.{Letters, isLetter, lettered, isName, areNames, same, position}
+use Rattle.netlist.specs.Names.{Letters, isLetterOrDigit, lettered, isName, areNames, same, position}
 use Rattle.netlist.specs.Forms.{Part, part, markOf, begunBy, partsOf, Form, empty, input, output, gate, none, isEmpty, isEnd, ended, closed, bracketed, declaring, declared, assigned, formOf, lineForm, kindWords, kindNamed, pinsAllowed, formRight}
 use Rattle.netlist.specs.Written.{divided, writtenForm, OneForm}
 use Rattle.netlist.proofs.Packing.{same-is, first-proper, rest-proper, name-proper}
@@ -58,7 +58,7 @@ parted : (bytes : List ℕ) → Parted bytes (partsOf bytes)
 unfolding partsOf
 parted [] = last []
 parted (byte ∷ rest) =
-    cases (isLetter byte) (λ e. rw e (parted-letter byte (parted rest))) (λ e. rw e (parted-mark byte (parted rest)))
+    cases (isLetterOrDigit byte) (λ e. rw e (parted-letter byte (parted rest))) (λ e. rw e (parted-mark byte (parted rest)))
 
 -- The line goes on after each of these marks.
 goes-on : {byte : ℕ} {mark : Mark} → Marked byte mark → isEnd mark ≡ false
@@ -141,15 +141,15 @@ abbrev lineParts : List ℕ → List Part
 lineParts line = partsOf (content line)
 
 read-mark : {byte : ℕ} {mark : Mark} (rest : List ℕ) → Marked byte mark → lineParts (byte ∷ rest) ≡ part [] mark ∷ lineParts rest
-unfolding content uncommented withoutBlanks isBlank partsOf isLetter within markOf
+unfolding content uncommented withoutBlanks isBlank partsOf isLetterOrDigit within markOf
 read-mark rest is-equals = refl
 read-mark rest is-open = refl
 read-mark rest is-comma = refl
 read-mark rest is-close = refl
 
 -- `#` is no letter.
-not-comment : (byte : ℕ) → isLetter byte ≡ true → byte ≡ 35 → ⊥
-unfolding isLetter within
+not-comment : (byte : ℕ) → isLetterOrDigit byte ≡ true → byte ≡ 35 → ⊥
+unfolding isLetterOrDigit within
 not-comment byte e z = false≢true (rw z at e)
 
 -- A word of letters and the mark after it are the first part of a line.
@@ -186,7 +186,7 @@ unfolding kindNamed
 no-kind word past = rw List·getD-eq-default
 
 kind-name : (word : Letters) (count : ℕ) → pinsAllowed (kindNamed word) count ≡ true → isName word ≡ true
-unfolding areNames isName within lettered isLetter
+unfolding areNames isName within lettered isLetterOrDigit
 kind-name word count allowed =
     cases (ltb (position word kindWords) 9)
     (λ e. known-name word kindWords refl (ltb-true (position word kindWords) 9 e))
@@ -212,7 +212,7 @@ read-gate name word (pin ∷ pins) n p allowed =
     (rw (read-part name _ is-equals (name-proper name n), read-part word _ is-open kind, inside .0, inside .1) refl)
 
 read-back : (form : Form) → formRight form ≡ true → lineForm (writtenForm form) ≡ form
-unfolding formRight lineForm writtenForm lettered isLetter within declaring same content uncommented withoutBlanks partsOf formOf
+unfolding formRight lineForm writtenForm lettered isLetterOrDigit within declaring same content uncommented withoutBlanks partsOf formOf
 read-back empty r = refl
 read-back (input name) r = read-declaration (ascii "INPUT") name refl r
 read-back (output name) r = read-declaration (ascii "OUTPUT") name refl r

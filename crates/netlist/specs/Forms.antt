@@ -10,7 +10,7 @@ use Rattle.block.specs.Refusals.{within}
 use Rattle.netlist.specs.declared.Mark.{Mark}
 use Rattle.netlist.specs.declared.Mark.the-variants.{Equals, Open, Comma, Close, Other, End}
 use Rattle.netlist.specs.Lines.{linesOf, content}
-use Rattle.netlist.specs.Names.{Letters, isLetter, isName, areNames, same, position}
+use Rattle.netlist.specs.Names.{Letters, isLetterOrDigit, isName, areNames, same, position}
 
 -- A piece of a line's content: a word, letters and digits alone and perhaps none, and the mark after it.
 pub record Part : Type 0 where
@@ -32,7 +32,7 @@ begunBy letter (first ∷ rest) = part (letter ∷ first .word) (first .mark) �
 -- The parts of a line's content. The last one has the line's end after it.
 unfoldable pub partsOf : List ℕ → List Part
 partsOf [] = part [] End ∷ []
-partsOf (byte ∷ rest) = cond (isLetter byte) (begunBy byte (partsOf rest)) (part [] (markOf byte) ∷ partsOf rest)
+partsOf (byte ∷ rest) = cond (isLetterOrDigit byte) (begunBy byte (partsOf rest)) (part [] (markOf byte) ∷ partsOf rest)
 
 -- What a line says: nothing, `INPUT(name)`, `OUTPUT(name)`, `name=KIND(name,...)`, or what fits no form. `Written.antt` writes each form
 -- out; by the law `one-form` a line is right exactly where what is left of it is a right form, so written.

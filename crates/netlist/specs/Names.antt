@@ -11,13 +11,13 @@ abbrev pub Letters : Type 0
 Letters = List ℕ
 
 -- Digits are bytes 48 to 57, capitals 65 to 90, small letters 97 to 122.
-unfoldable pub isLetter : ℕ → Bool
-isLetter byte = within 48 57 byte || (within 65 90 byte || within 97 122 byte)
+unfoldable pub isLetterOrDigit : ℕ → Bool
+isLetterOrDigit byte = within 48 57 byte || (within 65 90 byte || within 97 122 byte)
 
 -- Whether all bytes are letters or digits.
 unfoldable pub lettered : Letters → Bool
 lettered [] = true
-lettered (byte ∷ rest) = isLetter byte && lettered rest
+lettered (byte ∷ rest) = isLetterOrDigit byte && lettered rest
 
 -- Whether a word is a name.
 unfoldable pub isName : Letters → Bool

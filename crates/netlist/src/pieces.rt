@@ -1,10 +1,9 @@
 // A line, piece by piece.
 ghost use mathlib.Core.Path.{_≡_};
-ghost use mathlib.Core.Bool.{true};
 ghost use Prim.Native.Nat.{_≤_};
 ghost use lib.ListN.{length};
 ghost use Rattle.netlist.specs.Lines.{isBlank};
-ghost use Rattle.netlist.specs.Names.{isLetter};
+ghost use Rattle.netlist.specs.Names.{isLetterOrDigit};
 ghost use Rattle.netlist.specs.Forms.{markOf};
 ghost use Rattle.netlist.specs.Kept.{PieceRead};
 use super::Mark;
@@ -12,8 +11,8 @@ use super::Piece;
 use super::words;
 
 // Whether a byte is a letter or a digit.
-fn is_letter(byte: u8) -> bool
-    ensures { λ r. ⌜ r ≡ isLetter byte ⌝ }
+fn is_letter_or_digit(byte: u8) -> bool
+    ensures { λ r. ⌜ r ≡ isLetterOrDigit byte ⌝ }
 {
     ((b'0' <= byte) & (byte <= b'9'))
         | (((b'A' <= byte) & (byte <= b'Z')) | ((b'a' <= byte) & (byte <= b'z')))
@@ -56,7 +55,7 @@ pub fn read_piece(line: &[u8], from: usize) -> Piece
             };
         }
         at += 1;
-        if is_letter(byte) {
+        if is_letter_or_digit(byte) {
             word = word.with(byte);
         } else if !is_blank(byte) {
             return Piece {

@@ -152,23 +152,33 @@ mod bytes {
             .collect()
     }
 
-    #[test]
-    fn in_a_name() {
+    /// With each byte that passes the text gives two inputs; with every other it is refused by 17 at the line.
+    fn two_inputs(text: &str, line: u64, passes: impl Fn(u8) -> bool) {
         for byte in 0..=255 {
-            let text = with(byte, "INPUT(a)\nINPUT(b?)\nOUTPUT(a)\n");
-            if BLANKS.contains(&byte) || byte.is_ascii_alphanumeric() {
+            let text = with(byte, text);
+            if passes(byte) {
                 gives(text, &inputs(2));
             } else {
-                refused(text, 17, 2);
+                refused(text, 17, line);
             }
         }
+    }
+
+    fn blank(byte: u8) -> bool {
+        BLANKS.contains(&byte)
+    }
+
+    #[test]
+    fn in_a_name() {
+        let passes = |byte: u8| blank(byte) || byte.is_ascii_alphanumeric();
+        two_inputs("INPUT(a)\nINPUT(b?)\nOUTPUT(a)\n", 2, passes);
     }
 
     #[test]
     fn in_a_pin() {
         for byte in 0..=255 {
             let text = with(byte, "INPUT(a)\nINPUT(b)\nc=NOT(?b)\n");
-            if BLANKS.contains(&byte) {
+            if blank(byte) {
                 gives(text, &with_gate(gate(NOT, &[1])));
             } else {
                 let number = if byte.is_ascii_alphanumeric() { 18 } else { 17 };
@@ -179,38 +189,14 @@ mod bytes {
 
     #[test]
     fn in_a_word() {
-        for byte in 0..=255 {
-            let text = with(byte, "INPUT(a)\nINP?UT(b)\n");
-            if BLANKS.contains(&byte) {
-                gives(text, &inputs(2));
-            } else {
-                refused(text, 17, 2);
-            }
-        }
+        two_inputs("INPUT(a)\nINP?UT(b)\n", 2, blank);
     }
 
     #[test]
-    fn alone_in_a_line() {
-        for byte in 0..=255 {
-            let text = with(byte, "INPUT(a)\n?\nINPUT(b)\n");
-            if BLANKS.contains(&byte) || b"\n#".contains(&byte) {
-                gives(text, &inputs(2));
-            } else {
-                refused(text, 17, 2);
-            }
-        }
-    }
-
-    #[test]
-    fn after_a_line() {
-        for byte in 0..=255 {
-            let text = with(byte, "INPUT(a)?\nINPUT(b)");
-            if BLANKS.contains(&byte) || b"\n#".contains(&byte) {
-                gives(text, &inputs(2));
-            } else {
-                refused(text, 17, 1);
-            }
-        }
+    fn alone_in_a_line_or_after_one() {
+        let passes = |byte| blank(byte) || b"\n#".contains(&byte);
+        two_inputs("INPUT(a)\n?\nINPUT(b)\n", 2, passes);
+        two_inputs("INPUT(a)?\nINPUT(b)", 1, passes);
     }
 
     #[test]

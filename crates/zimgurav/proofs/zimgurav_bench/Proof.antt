@@ -17,8 +17,8 @@ same-length c = search needs
 
 returns : tie.Need-returns
 returns c =
-    let call = c .before .before .before .bench .ensures .handed in
-    record { answered = c .bench-numbers .ensures ∙ ap benchNumbers (call .answer); written = call .buffer }
+    let call = c .before .before .before .bench .ensures in
+    record { answered = c .bench-numbers .ensures ∙ ap benchNumbers (call .answered); written = call .written }
 
 pub zimgurav-bench-spec : {M : Type 1} → statement M
 zimgurav-bench-spec = tie.close (tie.spec bench-requires bench-numbers-requires same-length returns)

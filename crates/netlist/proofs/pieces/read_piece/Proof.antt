@@ -32,8 +32,8 @@ returns c =
 add-at : tie.Need-add-at Inv-loop μ-loop
 add-at c = omega arith
 
-is-letter-requires : tie.Need-is-letter-requires Inv-loop μ-loop
-is-letter-requires c κs = tt
+is-letter-or-digit-requires : tie.Need-is-letter-or-digit-requires Inv-loop μ-loop
+is-letter-or-digit-requires c κs = tt
 
 with-requires : tie.Need-with-requires Inv-loop μ-loop
 with-requires c κs = tt
@@ -46,7 +46,7 @@ loop-again c =
     let loop = c .before .before .before .before .before .before .loop in
     piece-letter _ _ _ (loop .at) (loop .inv) (c .before .before .before .before .before .loop-test .taken)
     (c .before .before .before .if1 .left) (c .with .result)
-    (sym (c .before .before .is-letter .ensures) ∙ c .before .if2 .taken) (c .with .ensures)
+    (sym (c .before .before .is-letter-or-digit .ensures) ∙ c .before .if2 .taken) (c .with .ensures)
 
 is-blank-requires : tie.Need-is-blank-requires Inv-loop μ-loop
 is-blank-requires c κs = tt
@@ -60,7 +60,7 @@ returns-2 c =
     piece-marked _ _ _ (loop .at) (loop .inv) (c .before .before .before .before .before .before .before .loop-test .taken)
     (c .before .before .before .before .before .if1 .left) (c .mark .result)
     (refuted (c .before .before .is-blank .ensures) (c .before .if3 .taken))
-    (sym (c .before .before .before .before .is-letter .ensures) ∙ c .before .before .before .if2 .left) (c .mark .ensures)
+    (sym (c .before .before .before .before .is-letter-or-digit .ensures) ∙ c .before .before .before .if2 .left) (c .mark .ensures)
 
 loop-less-2 : tie.Need-loop-less-2 Inv-loop μ-loop
 loop-less-2 c = omega arith
@@ -85,7 +85,7 @@ read-piece-spec =
     shared-slice-read-byte
     returns
     add-at
-    is-letter-requires
+    is-letter-or-digit-requires
     with-requires
     loop-less
     loop-again

@@ -11,7 +11,7 @@ use Rattle.laws.specs.Ascii.{ascii}
 use Rattle.laws.proofs.Tests.{and-left, and-right}
 use Rattle.block.specs.Refusals.{within}
 use Rattle.block.proofs.Fields.{within-low, within-high}
-use Rattle.netlist.specs.Names.{Letters, isLetter, lettered, same, position}
+use Rattle.netlist.specs.Names.{Letters, isLetterOrDigit, lettered, same, position}
 use Rattle.netlist.specs.Forms.{kindNamed}
 use Rattle.netlist.specs.Kept.{backwards, numberOf, shortNumber}
 use Rattle.netlist.proofs.Packing.{same-is, short-same}
@@ -41,52 +41,52 @@ short-requires : tie.Need-short-requires
 short-requires c κs = search needs
 
 returns : tie.Need-returns
-unfolding kindNamed position same lettered isLetter within backwards numberOf
+unfolding kindNamed position same lettered isLetterOrDigit within backwards numberOf
 returns c letters e proper =
     kind-told letters proper (c .before .short .ensures letters e proper) (ascii "AND") refl (c .match .keys1)
 
 returns-2 : tie.Need-returns-2
-unfolding kindNamed position same lettered isLetter within backwards numberOf
+unfolding kindNamed position same lettered isLetterOrDigit within backwards numberOf
 returns-2 c letters e proper =
     kind-told letters proper (c .before .short .ensures letters e proper) (ascii "NAND") refl (c .match .keys2)
 
 returns-3 : tie.Need-returns-3
-unfolding kindNamed position same lettered isLetter within backwards numberOf
+unfolding kindNamed position same lettered isLetterOrDigit within backwards numberOf
 returns-3 c letters e proper =
     kind-told letters proper (c .before .short .ensures letters e proper) (ascii "OR") refl (c .match .keys3)
 
 returns-4 : tie.Need-returns-4
-unfolding kindNamed position same lettered isLetter within backwards numberOf
+unfolding kindNamed position same lettered isLetterOrDigit within backwards numberOf
 returns-4 c letters e proper =
     kind-told letters proper (c .before .short .ensures letters e proper) (ascii "NOR") refl (c .match .keys4)
 
 returns-5 : tie.Need-returns-5
-unfolding kindNamed position same lettered isLetter within backwards numberOf
+unfolding kindNamed position same lettered isLetterOrDigit within backwards numberOf
 returns-5 c letters e proper =
     kind-told letters proper (c .before .short .ensures letters e proper) (ascii "XOR") refl (c .match .keys5)
 
 returns-6 : tie.Need-returns-6
-unfolding kindNamed position same lettered isLetter within backwards numberOf
+unfolding kindNamed position same lettered isLetterOrDigit within backwards numberOf
 returns-6 c letters e proper =
     kind-told letters proper (c .before .short .ensures letters e proper) (ascii "XNOR") refl (c .match .keys6)
 
 returns-7 : tie.Need-returns-7
-unfolding kindNamed position same lettered isLetter within backwards numberOf
+unfolding kindNamed position same lettered isLetterOrDigit within backwards numberOf
 returns-7 c letters e proper =
     kind-told letters proper (c .before .short .ensures letters e proper) (ascii "NOT") refl (c .match .keys7)
 
 returns-8 : tie.Need-returns-8
-unfolding kindNamed position same lettered isLetter within backwards numberOf
+unfolding kindNamed position same lettered isLetterOrDigit within backwards numberOf
 returns-8 c letters e proper =
     kind-told letters proper (c .before .short .ensures letters e proper) (ascii "BUF") refl (c .match .keys8)
 
 returns-9 : tie.Need-returns-9
-unfolding kindNamed position same lettered isLetter within backwards numberOf
+unfolding kindNamed position same lettered isLetterOrDigit within backwards numberOf
 returns-9 c letters e proper =
     kind-told letters proper (c .before .short .ensures letters e proper) (ascii "BUFF") refl (c .match .keys9)
 
 returns-10 : tie.Need-returns-10
-unfolding kindNamed position lettered isLetter within backwards numberOf
+unfolding kindNamed position lettered isLetterOrDigit within backwards numberOf
 returns-10 c letters e proper =
     let no = other-told letters proper (c .before .short .ensures letters e proper) in
     let rest = c .match .rest in
