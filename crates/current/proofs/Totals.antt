@@ -44,20 +44,23 @@ word-within-total words i h =
     let least = sum-at 16 (λ c. sheetIn words c (i % 512)) (i / 512) (omega arith) in
     omega (arith, ap (λ j. getD words j 0) place)
 
--- At a node and a tick each current is counted once, times one resistance. So the first contacts' part of a drop, and the drop.
-module _ (table : List ℕ) (s : Sheet) where
-  pub drop-part : (node t : ℕ) → ((i : ℕ) → getD table i 0 < resistanceLimit) → sumBelow 16 (λ c. s c t) ≤ blockLimit → (n : ℕ) → n ≤ 16
-      → sumBelow n (λ c. getD table (16 * node + c) 0 * s c t) ≤ (resistanceLimit - 1) * blockLimit
-  drop-part node t resistances most n h =
-      let weighted = sum-weighted n (λ c. getD table (16 * node + c) 0) (λ c. s c t) (resistanceLimit - 1)
-      (λ c _. let high = resistances (16 * node + c) in omega arith) in
-      let fewer = sum-fewer 16 n (λ c. s c t) h in
-      omega arith
+-- The part of a drop that the first n contacts have, by the resistance of each.
+abbrev pub dropPart : (ℕ → ℕ) → Sheet → ℕ → ℕ → ℕ
+dropPart resistance s n t = sumBelow n (λ c. resistance c * s c t)
 
-  pub drop-below : ((i : ℕ) → getD table i 0 < resistanceLimit) → ((t : ℕ) → t < 512 → sumBelow 16 (λ c. s c t) ≤ blockLimit)
-      → dropOf table s < dropLimit
-  unfolding dropOf dropAt
-  drop-below resistances most =
-      let within = max-within (length table / 16) (λ node. maxBelow 512 (λ t. dropAt table s node t)) ((resistanceLimit - 1) * blockLimit)
-      (λ node _. max-within 512 _ _ (λ t h. drop-part node t resistances (most t h) 16 (omega arith))) in
-      omega arith
+-- At a tick each current is counted once, times one resistance. So the first contacts' part of a drop, and the drop.
+
+pub drop-part : (resistance : ℕ → ℕ) (s : Sheet) (t : ℕ) → ((c : ℕ) → resistance c < resistanceLimit) → sumBelow 16 (λ c. s c t) ≤ blockLimit
+    → (n : ℕ) → n ≤ 16 → dropPart resistance s n t ≤ (resistanceLimit - 1) * blockLimit
+drop-part resistance s t resistances most n h =
+    let weighted = sum-weighted n resistance (λ c. s c t) (resistanceLimit - 1) (λ c _. let high = resistances c in omega arith) in
+    let fewer = sum-fewer 16 n (λ c. s c t) h in
+    omega arith
+
+pub drop-below : (table : List ℕ) (s : Sheet) → ((i : ℕ) → getD table i 0 < resistanceLimit)
+    → ((t : ℕ) → t < 512 → sumBelow 16 (λ c. s c t) ≤ blockLimit) → dropOf table s < dropLimit
+unfolding dropOf dropAt
+drop-below table s resistances most =
+    let within = max-within (length table / 16) (λ node. maxBelow 512 (λ t. dropAt table s node t)) ((resistanceLimit - 1) * blockLimit)
+    (λ node _. max-within 512 _ _ (λ t h. drop-part _ s t (λ c. resistances (16 * node + c)) (most t h) 16 (omega arith))) in
+    omega arith

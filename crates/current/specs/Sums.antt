@@ -1,11 +1,30 @@
--- The sums by which the code takes the drop.
-use Prim.Native.Nat.{ℕ, _+_, _*_, _≤_, _<_}
+-- The sums by which the code takes the drop: at each tick a bound of the drop of every node, and the drop itself where it is needed.
+use Prim.Native.Nat.{ℕ, _+_, _*_, _/_, _≤_, _<_}
 use mathlib.Core.List.{List}
 use mathlib.Core.Path.{_≡_}
 use lib.ListN.{length, getD}
-use Rattle.laws.specs.Below.{sumBelow}
-use Rattle.block.specs.Limits.{dropLimit}
+use Rattle.laws.specs.Below.{maxBelow, sumBelow}
+use Rattle.block.specs.Limits.{blockLimit, dropLimit}
+use Rattle.current.specs.Current.{Sheet, dropAt}
 use Rattle.current.specs.Drawing.{sheetIn}
+
+-- The greatest resistance of a contact over the nodes.
+unfoldable pub mostResistance : List ℕ → ℕ → ℕ
+mostResistance table c = maxBelow (length table / 16) (λ node. getD table (16 * node + c) 0)
+
+-- A bound of the drop of every node at tick t: each contact's current counts with its greatest resistance.
+unfoldable pub boundAt : List ℕ → Sheet → ℕ → ℕ
+boundAt table sheet t = sumBelow 16 (λ c. mostResistance table c * sheet c t)
+
+-- The greatest drop of a node at tick t.
+unfoldable pub tickDrop : List ℕ → Sheet → ℕ → ℕ
+tickDrop table sheet t = maxBelow (length table / 16) (λ node. dropAt table sheet node t)
+
+-- A tick at which the contacts together draw no more than all gates of a block.
+pub record TickFits (words : List ℕ) (t : ℕ) : Type 0 where
+  pub tick : t < 512
+  pub long : length words ≡ 8192
+  pub most : sumBelow 16 (λ c. sheetIn words c t) ≤ blockLimit
 
 -- Sums to which resistance × current is added for one contact, whose row starts at word `start`.
 unfoldable pub withContact : List ℕ → ℕ → List ℕ → ℕ → ℕ → ℕ
@@ -18,8 +37,3 @@ pub record SumsFit (sums : List ℕ) (resistance : ℕ) (words : List ℕ) (star
   pub in-row : stop ≤ 512
   pub place : start + 512 ≤ 8192
   pub small : (t : ℕ) → t < stop → withContact sums resistance words start t < dropLimit
-
--- The sums of the first n contacts at each tick before `stop`.
-pub record Summed (table words : List ℕ) (node stop n : ℕ) (sums : List ℕ) : Type 0 where
-  pub long : length sums ≡ 512
-  pub at : (t : ℕ) → t < stop → getD sums t 0 ≡ sumBelow n (λ c. getD table (16 * node + c) 0 * sheetIn words c t)

@@ -221,6 +221,16 @@ max-beyond (suc m) n f h none =
     (λ l. omega (arith, max-beyond m n f (le-of-suc-le-suc l) (λ k low high. none k low (omega arith)), none m (le-of-suc-le-suc l) (omega arith)))
     (eq-or-lt-of-le h)
 
+-- The greatest over two numbers is the same, whichever of them is taken first.
+
+swap-at-most : (m n : ℕ) (f : ℕ → ℕ → ℕ) → maxBelow m (λ i. maxBelow n (f i)) ≤ maxBelow n (λ j. maxBelow m (λ i. f i j))
+swap-at-most m n f =
+    max-within m _ _
+    (λ i h. max-within n _ _ (λ j l. omega (arith, max-at m (λ k. f k j) i h, max-at n (λ k. maxBelow m (λ i. f i k)) j l)))
+
+pub max-swap : (m n : ℕ) (f : ℕ → ℕ → ℕ) → maxBelow m (λ i. maxBelow n (f i)) ≡ maxBelow n (λ j. maxBelow m (λ i. f i j))
+max-swap m n f = omega (arith, swap-at-most m n f, swap-at-most n m (λ j i. f i j))
+
 -- The first number at which f is greatest: it is below n where there is one, f is greatest at it, and f is less before it.
 
 argmax-at-most : (n : ℕ) (f : ℕ → ℕ) → argmax n f ≤ n

@@ -1,22 +1,28 @@
 -- `current::drop::node_drop` meets its contract.
 -- Assumes nothing.
-use Prim.Native.Nat.{_-_, _≤_}
-use mathlib.Core.Path.{refl, _∙_}
+use Prim.Native.Nat.{_+_, _*_, _-_, _≤_, _<_}
+use mathlib.Core.Path.{_≡_, refl}
 use native.Mathlib.Omega.{arith}
+use lib.ListN.{getD}
 use borrow.Author.Needs.{needs}
-use Rattle.current.specs.Sums.{Summed}
-use Rattle.current.proofs.Drops.{summed-none, summed-small, summed-next, summed-most}
+use Rattle.laws.specs.Below.{sumBelow}
+use Rattle.block.specs.Limits.{dropLimit}
+use Rattle.current.specs.Current.{dropAt}
+use Rattle.current.specs.Drawing.{sheetIn}
+use Rattle.current.proofs.Totals.{dropPart}
+use Rattle.current.proofs.Drops.{node-next, node-small}
 use Rattle.current.proofs.drop.node_drop.Statement.{statement}
 use Rattle.current.proofs.drop.node_drop.Tie as tie
 
 abbrev Inv-loop : tie.InvT-loop
-Inv-loop table node sheet stop sums₀ contact₀ sums contact = (contact ≤ 16) × Summed table sheet node stop contact sums
+Inv-loop table node sheet t sum₀ contact₀ sum contact = (contact ≤ 16) × (sum ≡ dropPart (λ c. getD table (16 * node + c) 0) (sheetIn sheet) contact t)
 
 abbrev μ-loop : tie.MeasureT-loop
-μ-loop table node sheet stop sums₀ contact₀ sums contact = 16 - contact
+μ-loop table node sheet t sum₀ contact₀ sum contact = 16 - contact
 
 loop-holds : tie.Need-loop-holds Inv-loop μ-loop
-loop-holds c = (omega arith, summed-none refl)
+unfolding sumBelow
+loop-holds c = (omega arith, refl)
 
 mul-u64-from-u16 : tie.Need-mul-u64-from-u16 Inv-loop μ-loop
 mul-u64-from-u16 c = search needs
@@ -33,24 +39,36 @@ shared-slice-read-u64-from-u16 c = search needs
 u64-from-u16-requires : tie.Need-u64-from-u16-requires Inv-loop μ-loop
 u64-from-u16-requires c κs = search needs
 
-slice-aggregate-add-contact : tie.Need-slice-aggregate-add-contact Inv-loop μ-loop
-slice-aggregate-add-contact c = search needs
+mul-u64-from-u32 : tie.Need-mul-u64-from-u32 Inv-loop μ-loop
+mul-u64-from-u32 c = search needs
 
-mul-add-contact : tie.Need-mul-add-contact Inv-loop μ-loop
-mul-add-contact c = search needs
+add-u64-from-u32 : tie.Need-add-u64-from-u32 Inv-loop μ-loop
+add-u64-from-u32 c = search needs
 
-add-contact-requires : tie.Need-add-contact-requires Inv-loop μ-loop
-add-contact-requires c κs =
-    let start = c .before .before .before .before .before .before .before in
-    let loop = c .before .before .before .before .loop in
-    record {
-      long = loop .inv .1 .long;
-      sheet-long = start .pre .1 .long;
-      in-row = start .pre .1 .ticks;
-      place = omega arith;
-      small = summed-small (loop .inv .1) _ (c .before .u64-from-u16 .ensures .0) (omega arith) (omega arith)
-          (λ i. omega (arith, c .before .before .before .before .before .before .shared-slice-known .given i)) (start .pre .1);
-    }
+mul-u64-from-u32-2 : tie.Need-mul-u64-from-u32-2 Inv-loop μ-loop
+mul-u64-from-u32-2 c = search needs
+
+shared-slice-read-u64-from-u32 : tie.Need-shared-slice-read-u64-from-u32 Inv-loop μ-loop
+shared-slice-read-u64-from-u32 c = search needs
+
+u64-from-u32-requires : tie.Need-u64-from-u32-requires Inv-loop μ-loop
+u64-from-u32-requires c κs = search needs
+
+-- The sum with the contact is below the limit.
+sum-small : (c : tie.After-u64-from-u32 Inv-loop μ-loop)
+    → c .before .before .before .before .before .loop .sum + c .before .before .u64-from-u16 .result * c .u64-from-u32 .result < dropLimit
+sum-small c =
+    let start = c .before .before .before .before .before .before .before .before in
+    let loop = c .before .before .before .before .before .loop in
+    node-small (start .args .table .now) (start .args .sheet .now) (start .args .node) (start .args .t) (loop .contact) (loop .inv .1)
+    (c .before .before .u64-from-u16 .ensures .0) (c .u64-from-u32 .ensures .0) (omega arith)
+    (λ i. omega (arith, c .before .before .before .before .before .before .before .shared-slice-known .given i)) (start .pre .1)
+
+mul-sum : tie.Need-mul-sum Inv-loop μ-loop
+mul-sum c = omega (arith, sum-small c)
+
+add-sum : tie.Need-add-sum Inv-loop μ-loop
+add-sum c = omega (arith, sum-small c)
 
 add-contact : tie.Need-add-contact Inv-loop μ-loop
 add-contact c = search needs
@@ -60,19 +78,16 @@ loop-less c = search needs
 
 loop-again : tie.Need-loop-again Inv-loop μ-loop
 loop-again c =
-    let loop = c .before .before .before .before .before .before .loop in
-    (omega arith, summed-next (loop .inv .1) _ (c .before .before .before .u64-from-u16 .ensures .0) (omega arith) (c .before .add-contact .ensures))
-
-slice-aggregate-greatest : tie.Need-slice-aggregate-greatest Inv-loop μ-loop
-slice-aggregate-greatest c = search needs
-
-greatest-requires : tie.Need-greatest-requires Inv-loop μ-loop
-greatest-requires c κs = search needs
+    let start = c .before .before .before .before .before .before .before .before in
+    let loop = c .before .before .before .before .before .loop in
+    (omega arith, node-next (start .args .table .now) (start .args .sheet .now) (start .args .node) (start .args .t) (loop .contact) (loop .inv .1) (c .before .before .u64-from-u16 .ensures .0) (c .u64-from-u32 .ensures .0))
 
 returns : tie.Need-returns Inv-loop μ-loop
+unfolding dropAt
 returns c =
-    let loop = c .before .before .before .loop in
-    c .greatest .ensures ∙ summed-most (loop .inv .1) (omega arith)
+    let loop = c .before .loop in
+    let e : loop .contact ≡ 16 = omega arith in
+    rw e at (loop .inv .1)
 
 pub node-drop-spec : {M : Type 1} → statement M
 node-drop-spec =
@@ -86,12 +101,14 @@ node-drop-spec =
     mul-u64-from-u16-2
     shared-slice-read-u64-from-u16
     u64-from-u16-requires
-    slice-aggregate-add-contact
-    mul-add-contact
-    add-contact-requires
+    mul-u64-from-u32
+    add-u64-from-u32
+    mul-u64-from-u32-2
+    shared-slice-read-u64-from-u32
+    u64-from-u32-requires
+    mul-sum
+    add-sum
     add-contact
     loop-less
     loop-again
-    slice-aggregate-greatest
-    greatest-requires
     returns)
