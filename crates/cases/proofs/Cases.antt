@@ -41,7 +41,7 @@ first-only s e d m =
 pub decided-single : (s : UncertaintySet) (e : Excitation) → undecided s ≡ false → e ∈ s → s ≡ single (firstAllowed s)
 decided-single s e d m = single-is s (firstAllowed s) (first-member s e m) (λ x n. first-only s x d n)
 
-first-single : (e : Excitation) → firstAllowed (single e) ≡ e
+pub first-single : (e : Excitation) → firstAllowed (single e) ≡ e
 unfolding firstAllowed member
 first-single = for-each (λ e. firstAllowed (single e) ≡ e) refl refl refl refl
 

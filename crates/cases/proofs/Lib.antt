@@ -10,3 +10,4 @@ pub mod Chosen
 pub mod Outcomes
 pub mod Counts
 pub mod Right
+pub mod Probes

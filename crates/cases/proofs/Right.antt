@@ -80,12 +80,12 @@ module _ (simulated : List Excitation → ℕ) where
   better-reached frame best case reached choice =
       cases (ltb (best .lower) (simulated (probe case))) (λ t. rw t (record { chosen = choice; reached = refl })) (λ t. rw t reached)
 
-  best-grown : (new : List Case) (best : Best) → best .lower ≤ bestOf simulated best new .lower
+  pub best-grown : (new : List Case) (best : Best) → best .lower ≤ bestOf simulated best new .lower
   unfolding bestOf
   best-grown [] best = le-refl (best .lower)
   best-grown (case ∷ rest) best = le-trans (better-grown best case) (best-grown rest (better simulated best case))
 
-  best-probed : (new : List Case) (best : Best) {case : Case} → List·Memᴰ case new
+  pub best-probed : (new : List Case) (best : Best) {case : Case} → List·Memᴰ case new
       → simulated (probe case) ≤ bestOf simulated best new .lower
   unfolding bestOf
   best-probed (first ∷ rest) best (List·Memᴰ·head e) =

@@ -20,7 +20,7 @@ module _ {A : Type 0} where
   member-at (x ∷ rest) zero d h = List·Memᴰ·head refl
   member-at (x ∷ rest) (suc k) d h = List·Memᴰ·tail (member-at rest k d (omega arith))
 
-  number-of : {x : A} {xs : List A} (d : A) → List·Memᴰ x xs → (k : ℕ) × (k < length xs) × (getD xs k d ≡ x)
+  pub number-of : {x : A} {xs : List A} (d : A) → List·Memᴰ x xs → (k : ℕ) × (k < length xs) × (getD xs k d ≡ x)
   number-of {xs = y ∷ rest} d (List·Memᴰ·head e) = (0, omega arith, sym e)
   number-of {xs = y ∷ rest} d (List·Memᴰ·tail m) = let n = number-of d m in (suc (n .0), omega (arith, n .1), n .2)
 

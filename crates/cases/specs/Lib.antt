@@ -1,5 +1,6 @@
 pub mod Case
 pub mod Search
+pub mod Probes
 pub mod Promise
 pub mod Choice
 pub mod Store

@@ -32,7 +32,7 @@ pub fn is_decided(codes: &[u8], inputs: usize) -> bool
 }
 
 // The byte of a set's first allowed of lh, hl, h, l.
-fn first_allowed(code: u8) -> u8
+pub fn first_allowed(code: u8) -> u8
     ensures { λ r. ⌜ r ≡ byteOf (firstAllowed (decode code)) ⌝ }
 {
     let set = Set { code };
