@@ -1,6 +1,7 @@
 // A case made: its probe simulated, its upper number found, and its record written.
+ghost use mathlib.Core.Bool.{true};
 ghost use mathlib.Core.Path.{_≡_};
-ghost use Prim.Native.Nat.{_<_};
+ghost use Prim.Native.Nat.{_≤_, _<_};
 ghost use lib.ListN.{length};
 ghost use Rattle.block.specs.Limits.{dropLimit};
 ghost use Rattle.cases.specs.Records.{HasCase, SetCodes};
@@ -51,7 +52,7 @@ fn own_upper(
 }
 
 // Makes a case: writes its record and, where its probe's drop reaches the threshold, its probe. Returns the drop that the next probe has
-// to reach.
+// to reach. A probe whose drop is known to be below the threshold is simulated only where the case is decided, for its upper number.
 pub fn make_case(
     file: &[u8],
     setting: Setting,
@@ -59,15 +60,21 @@ pub fn make_case(
     codes: &[u8],
     cap: u64,
     threshold: u64,
+    known: bool,
     at: CaseNumber,
     sheet: &mut [Word],
     pattern: &mut [u8],
     work: &mut [u8],
     store: &mut [u8],
 ) -> u64
-    requires { ⌜ Evaluable (now file) setting (now sheet) (now work) × (length (now codes) ≡ 64) × SetCodes (setting .inputs) (now codes) × (length (now pattern) ≡ 64) × HasCase (now store) (at .0) ⌝ }
+    requires { ⌜ Evaluable (now file) setting (now sheet) (now work) × (length (now codes) ≡ 64) × SetCodes (setting .inputs) (now codes) × (length (now pattern) ≡ 64) × HasCase (now store) (at .0) × (threshold ≤ dropLimit) × (known ≡ true → probeDrop (now file) setting (now table) (now codes) < threshold) ⌝ }
     ensures { λ r. ⌜ CaseMade (now (file .entry)) setting (now (table .entry)) (now (codes .entry)) cap threshold (at .0) (now (store .entry)) (now (pattern .entry)) r (now (store .exit)) (now (pattern .exit)) ⌝ }
 {
+    if known && !sets::is_decided(codes, setting.inputs) {
+        let currents = evaluation::evaluate(file, setting, codes, table, sheet, work);
+        store::write_case(store, at, codes, numbers::min_u64(cap, currents.drop));
+        return threshold;
+    }
     let drop = probe_drop(file, setting, table, codes, sheet, work);
     let own = own_upper(file, setting, table, codes, drop, sheet, work);
     store::write_case(store, at, codes, numbers::min_u64(cap, own));

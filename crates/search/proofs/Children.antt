@@ -1,30 +1,34 @@
--- Laws of the children of a case: the bytes of their sets, and one child more.
+-- Laws of the children of a case: the bytes of their sets, the one that has its parent's probe, and one child more.
 -- Assumes nothing.
 use Prim.Native.Nat.{ℕ, _+_, _≤_, _<_, max}
 use mathlib.Core.Bool.{Bool, true, false, not, cond, false≢true}
 use mathlib.Core.List.{List, [], _∷_, _++_, map, append-nil, map-append}
-use mathlib.Core.Path.{_≡_, refl, ap, sym, _∙_}
+use mathlib.Core.Path.{_≡_, refl, ap, sym, subst, _∙_}
 use native.Mathlib.Nat.{zero-add}
 use native.Mathlib.Numerals.{add-one}
 use native.Mathlib.Omega.{arith}
+use lib.Dec.{eqb}
 use lib.ListN.{length, getD, set, length-set}
 use lib.Seq.{ext-getD, getD-set-same, getD-set-other}
+use borrow.Author.Tests.{eqb-true}
 use borrow.Table.Steps.{cases}
 use Rattle.laws.specs.Rewritten.{Rewritten}
 use Rattle.laws.proofs.Numbers.{of-each}
 use Rattle.laws.proofs.Rewritten.{rewritten-first}
 use Rattle.laws.proofs.Tests.{refuted, confirmed}
 use Rattle.laws.proofs.Turn.{list-is}
-use Rattle.excitation.specs.Excitation.{excitationOf}
+use Rattle.excitation.specs.Excitation.{excitationOf, byteOf}
 use Rattle.excitation.specs.UncertaintySet.{UncertaintySet, member, empty, code, decode, single, setsIn}
 use Rattle.excitation.specs.declared.Excitation.{Excitation}
+use Rattle.excitation.proofs.Bytes.{byte-back}
 use Rattle.excitation.proofs.Codes.{code-below, decode-code, set-at, sets-long}
 use Rattle.excitation.proofs.Finite.{for-each}
 use Rattle.block.specs.Record.{File}
-use Rattle.cases.specs.Case.{Case, membersBelow, childrenBelow}
+use Rattle.cases.specs.Case.{Case, firstAllowed, probe, membersBelow, childrenBelow}
 use Rattle.cases.specs.Records.{SetCodes}
+use Rattle.cases.proofs.Probes.{probe-kept}
 use Rattle.evaluation.specs.declared.Setting.{Setting}
-use Rattle.bounds.specs.Bounds.{CaseMade}
+use Rattle.bounds.specs.Bounds.{simulatedDrop, probeDrop, CaseMade}
 use Rattle.search.specs.Steps.{ChildMade, childCodes}
 use Rattle.search.specs.declared.Step.{Step}
 
@@ -75,6 +79,22 @@ module _ (inputs : ℕ) (few : inputs ≤ 64) (parent : List ℕ) (long : length
       (of-each (λ net. net < inputs → getD (set sets input one) net empty ≡ decode (getD (childCodes parent input e) net 0)) input
       (λ h. getD-set-same sets input one empty (omega (arith, sets-long inputs parent)) ∙ sym (ap decode byte-here ∙ decode-code one))
       (λ net d h. getD-set-other sets input net one empty d ∙ set-at inputs parent net empty h ∙ ap decode (sym (byte-other net d)))))
+
+  -- The child of the first allowed of the parent's set has the parent's probe.
+  child-probe : e ≡ byteOf (firstAllowed (decode (getD parent input 0))) → probe (setsIn inputs (childCodes parent input e)) ≡ probe (setsIn inputs parent)
+  child-probe first =
+      let sets = setsIn inputs parent in
+      let is : excitationOf e ≡ firstAllowed (getD sets input empty) =
+      ap excitationOf first ∙ byte-back (firstAllowed (decode (getD parent input 0))) ∙ ap firstAllowed (sym (set-at inputs parent input empty inside)) in
+      ap probe child-sets ∙ ap (λ x. probe (set sets input (single x))) is ∙ probe-kept sets input
+
+-- So its probe's drop is below the threshold where the parent's is.
+pub child-below : (file : File) (setting : Setting) (table parent : List ℕ) (input e : ℕ) {codes : List ℕ} {first threshold : ℕ} → setting .inputs ≤ 64
+    → length parent ≡ 64 → input < setting .inputs → codes ≡ childCodes parent input e → first ≡ byteOf (firstAllowed (decode (getD parent input 0)))
+    → probeDrop file setting table parent < threshold → eqb e first ≡ true → probeDrop file setting table codes < threshold
+child-below file setting table parent input e {codes} {first} {threshold} few long inside coded is below test =
+    let same = ap (λ bytes. probe (setsIn (setting .inputs) bytes)) coded ∙ child-probe (setting .inputs) few parent long input inside e (eqb-true e first test ∙ is) in
+    subst (λ pattern. simulatedDrop file table pattern < threshold) (sym same) below
 
 -- A child skipped, and a child made.
 

@@ -13,9 +13,11 @@ use Rattle.operation.specs.declared.Found.{Found}
 use Rattle.operation.specs.declared.Outcome.{Outcome}
 use Rattle.operation.specs.declared.Outcome.the-variants.{Exact, Within, Spent}
 use Rattle.evaluation.specs.declared.Setting.{Setting}
+use Rattle.cases.specs.Probes.{ProbesCovered}
 use Rattle.cases.specs.Records.{upperIn}
 use Rattle.cases.specs.Search.{State, searchFrom}
 use Rattle.cases.proofs.Records.{next-split, greatest-upper}
+use Rattle.cases.proofs.Probes.{split-covered}
 use Rattle.cases.proofs.Outcomes.{stop-exact, stop-within, stop-spent, goes-on}
 use Rattle.bounds.specs.Bounds.{simulatedDrop, envelopeDrop}
 use Rattle.search.specs.Search.{chooseIn}
@@ -39,18 +41,21 @@ pub record Reached (file : File) (setting : Setting) (table : List ℕ) (ratio b
       (stateIn (setting .inputs) n best store′ pattern′)
       ≡ searchFrom (simulatedDrop file table) (envelopeDrop file (setting .hops) table) (chooseIn file) ratio budget 0 (stateIn (setting .inputs) 1 threshold store pattern)
   pub running : Running (setting .inputs) n best store′ pattern′
+  pub covered : ProbesCovered (simulatedDrop file table) (stateIn (setting .inputs) n best store′ pattern′)
   pub past : PastKept (setting .inputs) n store pattern store′ pattern′
   pub afforded : splits ≤ budget
   pub few : n ≤ 1 + 3 * splits
 
 -- The search begins with one case and no split.
 pub reached-first : {file : File} {setting : Setting} {table : List ℕ} {ratio budget threshold : ℕ} {store pattern : List ℕ}
-    → Running (setting .inputs) 1 threshold store pattern → Reached file setting table ratio budget threshold store pattern 1 threshold 0 store pattern
-reached-first {budget = budget} running =
+    → Running (setting .inputs) 1 threshold store pattern → ProbesCovered (simulatedDrop file table) (stateIn (setting .inputs) 1 threshold store pattern)
+    → Reached file setting table ratio budget threshold store pattern 1 threshold 0 store pattern
+reached-first {budget = budget} running covered =
     let e : budget - 0 ≡ budget = omega arith in
     record {
       rest = rw e refl;
       running = running;
+      covered = covered;
       past = record { store-long = refl; store-past = λ j l. refl; pattern-long = refl; pattern-past = λ j l. refl };
       afforded = omega arith;
       few = omega arith;
@@ -138,6 +143,8 @@ module _ {file : File} {setting : Setting} {table : List ℕ} {ratio budget thre
             (goes-on (simulatedDrop file table) (envelopeDrop file (setting .hops) table) (chooseIn file) ratio (stateIn (setting .inputs) n best store′ pattern′)
             (budget - splits) splits (omega arith) (λ q. d (next .greatest ∙ q)) (rw (← next .greatest) l) ∙ reached .rest);
         running = case-split .running;
+        covered = subst (ProbesCovered (simulatedDrop file table)) (sym (case-split .state))
+            (split-covered (simulatedDrop file table) (envelopeDrop file (setting .hops) table) (chooseIn file) (stateIn (setting .inputs) n best store′ pattern′) (reached .covered));
         past = past-kept (case-split .more) (reached .past) (case-split .past);
         afforded = omega arith;
         few = omega (arith, case-split .few, reached .few);

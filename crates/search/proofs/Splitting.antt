@@ -14,15 +14,17 @@ use Rattle.excitation.proofs.Codes.{set-at, sets-long}
 use Rattle.block.specs.Accepted.{AcceptedFile}
 use Rattle.block.specs.Limits.{dropLimit}
 use Rattle.block.specs.Record.{File}
-use Rattle.cases.specs.Case.{Case, membersBelow, childrenBelow}
+use Rattle.cases.specs.Case.{Case, probe, membersBelow, childrenBelow}
 use Rattle.cases.specs.Choice.{coneSizes, chosenInput}
 use Rattle.cases.proofs.Chosen.{chosen-same, cones-at}
+use Rattle.cases.specs.Probes.{ProbesCovered}
 use Rattle.cases.specs.Records.{casesIn, HasCase, SetCodes}
-use Rattle.cases.specs.Search.{setsAt, greatestUpper, nextSplit, placed, bestOf, madeUnder, nextChildren, split}
+use Rattle.cases.specs.Search.{Best, setsAt, greatestUpper, nextSplit, placed, bestOf, madeUnder, nextChildren, split}
 use Rattle.cases.proofs.Codes.{probe-read}
-use Rattle.cases.proofs.Records.{caseOf, sets-copied, sets-at}
+use Rattle.cases.proofs.Records.{caseOf, sets-copied, cases-long, sets-at}
+use Rattle.cases.proofs.Right.{best-grown}
 use Rattle.evaluation.specs.declared.Setting.{Setting}
-use Rattle.bounds.specs.Bounds.{simulatedDrop, envelopeDrop, CaseMade, ownUpper}
+use Rattle.bounds.specs.Bounds.{simulatedDrop, envelopeDrop, probeDrop, CaseMade, ownUpper}
 use Rattle.search.specs.Search.{chooseIn}
 use Rattle.search.specs.Steps.{ChildMade, Running, Cones, CaseToSplit, CaseSplit, bestIn, stateIn, childCodes}
 use Rattle.search.specs.declared.Step.{Step}
@@ -56,6 +58,30 @@ splitting-begun running = record {
   };
   places = (refl, refl);
 }
+
+-- The parent's probe drops less than the threshold, which does not fall while the children are made.
+pub parent-below : {file : File} {setting : Setting} {table parent given : List ℕ} {input k cap n threshold : ℕ} {store pattern : List ℕ}
+    {e count next threshold′ : ℕ} {store′ pattern′ : List ℕ} → setting .inputs ≤ 64 → Running (setting .inputs) n threshold store pattern → k < n
+    → ProbesCovered (simulatedDrop file table) (stateIn (setting .inputs) n threshold store pattern)
+    → Rewritten (λ j. getD store (72 * k + j) 0) 0 64 given parent
+    → Splitting file setting table parent input k cap n threshold store pattern e count next threshold′ store′ pattern′
+    → probeDrop file setting table parent < threshold′
+unfolding stateIn bestIn
+parent-below {file} {setting} {table} {parent} {given} {input} {k} {cap} {n} {threshold} {store} {pattern} {e} few running inside covered copied now =
+    let inputs = setting .inputs in
+    let simulated = simulatedDrop file table in
+    let is : setsIn inputs parent ≡ setsAt (casesIn inputs store n) k = sets-copied inputs few store k given parent copied ∙ sym (sets-at inputs store n k inside) in
+    let drop : probeDrop file setting table parent ≡ simulated (probe (setsAt (casesIn inputs store n) k)) = ap (λ sets. simulated (probe sets)) is in
+    let lower = ap (λ (best : Best). best .lower) (now .best .is) in
+    omega (
+      arith,
+      drop,
+      covered .covers k (omega (arith, cases-long inputs store n)),
+      best-grown simulated (childrenBelow e input (setsIn inputs parent)) (bestIn inputs threshold pattern),
+      lower,
+      running .threshold-low,
+      now .best .threshold-low,
+    )
 
 -- One excitation more.
 

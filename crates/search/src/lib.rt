@@ -52,6 +52,7 @@ fn make_first(
         &codes,
         NO_CAP,
         0,
+        false,
         CaseNumber(0),
         sheet,
         pattern,

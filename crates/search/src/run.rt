@@ -2,7 +2,9 @@
 ghost use mathlib.Core.Path.{_≡_};
 ghost use Prim.Native.Nat.{_+_, _*_, _≤_, _<_};
 ghost use lib.ListN.{length};
+ghost use Rattle.cases.specs.Probes.{ProbesCovered};
 ghost use Rattle.evaluation.specs.Evaluation.{Evaluable};
+ghost use Rattle.bounds.specs.Bounds.{simulatedDrop};
 ghost use Rattle.search.specs.Steps.{Running, Cones, stateIn, Ran};
 use super::split;
 use cases::store;
@@ -38,7 +40,7 @@ pub fn run(
     work: &mut [u8],
     store: &mut [u8],
 ) -> Found
-    requires { ⌜ Evaluable (now file) setting (now sheet) (now work) × Running (setting .inputs) 1 threshold (now store) (now pattern) × Cones (now file) (setting .inputs) (now cones) × (length (now cones) ≡ 64) × (ratio ≤ 10000) × (budget ≤ 10000) × (72 * (1 + 3 * budget) ≤ length (now store)) ⌝ }
+    requires { ⌜ Evaluable (now file) setting (now sheet) (now work) × Running (setting .inputs) 1 threshold (now store) (now pattern) × Cones (now file) (setting .inputs) (now cones) × (length (now cones) ≡ 64) × (ratio ≤ 10000) × (budget ≤ 10000) × (72 * (1 + 3 * budget) ≤ length (now store)) × ProbesCovered (simulatedDrop (now file) (now table)) (stateIn (setting .inputs) 1 threshold (now store) (now pattern)) ⌝ }
     ensures { λ r. ⌜ Ran (now (file .entry)) setting (now (table .entry)) ratio budget (stateIn (setting .inputs) 1 threshold (now (store .entry)) (now (pattern .entry))) (now (store .entry)) (now (pattern .entry)) r (now (store .exit)) (now (pattern .exit)) ⌝ }
 {
     let mut cases: usize = 1;

@@ -2,14 +2,18 @@
 ghost use mathlib.Core.Path.{_≡_};
 ghost use Prim.Native.Nat.{_+_, _*_, _≤_, _<_};
 ghost use lib.ListN.{length};
+ghost use Rattle.block.specs.Limits.{dropLimit};
+ghost use Rattle.cases.specs.Probes.{ProbesCovered};
 ghost use Rattle.cases.specs.Records.{HasCase, SetCodes};
 ghost use Rattle.evaluation.specs.Evaluation.{Evaluable};
-ghost use Rattle.search.specs.Steps.{childCodes, ChildMade, Running, Cones, CaseToSplit, CaseSplit};
+ghost use Rattle.bounds.specs.Bounds.{simulatedDrop, probeDrop};
+ghost use Rattle.search.specs.Steps.{stateIn, childCodes, ChildMade, Running, Cones, CaseToSplit, CaseSplit};
 use super::Step;
 use block::Net;
 use bounds::make;
 use cases::CaseNumber;
 use cases::choice;
+use cases::sets;
 use cases::store;
 use current::Word;
 use evaluation::Setting;
@@ -27,7 +31,8 @@ fn child_codes(parent: &[u8], input: Net, e: u8) -> [u8; 64]
     codes
 }
 
-// Makes the child whose input has the excitation of byte e, where the parent's set allows it.
+// Makes the child whose input has the excitation of byte e, where the parent's set allows it. The child of the first allowed has its
+// parent's probe, whose drop is known to be below the threshold.
 fn make_child(
     file: &[u8],
     setting: Setting,
@@ -42,15 +47,17 @@ fn make_child(
     work: &mut [u8],
     store: &mut [u8],
 ) -> Step
-    requires { ⌜ Evaluable (now file) setting (now sheet) (now work) × (length (now parent) ≡ 64) × SetCodes (setting .inputs) (now parent) × (input .0 < setting .inputs) × (e < 4) × (length (now pattern) ≡ 64) × HasCase (now store) (step .next .0) × (step .cases ≤ 30001) ⌝ }
+    requires { ⌜ Evaluable (now file) setting (now sheet) (now work) × (length (now parent) ≡ 64) × SetCodes (setting .inputs) (now parent) × (input .0 < setting .inputs) × (e < 4) × (length (now pattern) ≡ 64) × HasCase (now store) (step .next .0) × (step .cases ≤ 30001) × (step .threshold ≤ dropLimit) × (probeDrop (now file) setting (now table) (now parent) < step .threshold) ⌝ }
     ensures { λ r. ⌜ ChildMade (now (file .entry)) setting (now (table .entry)) (now (parent .entry)) (input .0) e cap step (now (store .entry)) (now (pattern .entry)) r (now (store .exit)) (now (pattern .exit)) ⌝ }
 {
     let net = input.0;
-    let set = Set { code: parent[net] };
+    let code = parent[net];
+    let set = Set { code };
     if !set.contains(excitation::excitation_of(e)) {
         return step;
     }
     let codes = child_codes(parent, input, e);
+    let known = e == sets::first_allowed(code);
     let next = step.next;
     let threshold = make::make_case(
         file,
@@ -59,6 +66,7 @@ fn make_child(
         &codes,
         cap,
         step.threshold,
+        known,
         next,
         sheet,
         pattern,
@@ -88,7 +96,7 @@ pub fn split(
     work: &mut [u8],
     store: &mut [u8],
 ) -> Step
-    requires { ⌜ Evaluable (now file) setting (now sheet) (now work) × Running (setting .inputs) n threshold (now store) (now pattern) × CaseToSplit (setting .inputs) n (now store) (k .0) cap × Cones (now file) (setting .inputs) (now cones) × (length (now cones) ≡ 64) × (72 * (n + 3) ≤ length (now store)) × (n + 3 ≤ 30001) ⌝ }
+    requires { ⌜ Evaluable (now file) setting (now sheet) (now work) × Running (setting .inputs) n threshold (now store) (now pattern) × CaseToSplit (setting .inputs) n (now store) (k .0) cap × Cones (now file) (setting .inputs) (now cones) × (length (now cones) ≡ 64) × (72 * (n + 3) ≤ length (now store)) × (n + 3 ≤ 30001) × ProbesCovered (simulatedDrop (now file) (now table)) (stateIn (setting .inputs) n threshold (now store) (now pattern)) ⌝ }
     ensures { λ r. ⌜ CaseSplit (now (file .entry)) setting (now (table .entry)) n threshold (now (store .entry)) (now (pattern .entry)) (r .cases) (r .threshold) (now (store .exit)) (now (pattern .exit)) ⌝ }
 {
     let mut parent = [0u8; 64];

@@ -1,5 +1,6 @@
 -- `search::make_first` meets its contract.
 -- Assumes nothing.
+use mathlib.Core.Bool.{false≢true}
 use native.Mathlib.Omega.{arith}
 use borrow.Author.Needs.{needs}
 use Rattle.search.proofs.First.{codes-long, frame-coded, first-made}
@@ -19,8 +20,15 @@ make-case-requires : tie.Need-make-case-requires
 make-case-requires c κs =
     let coded = c .before .before .before .before .before .before in
     let s = coded .before .before .before .before .before .before .before .before in
-    let file = s .pre .0 .accepted in
-    (s .pre .0, codes-long file (coded .frame-codes .ensures), frame-coded file (coded .frame-codes .ensures), s .pre .1, record { whole = omega (arith, s .pre .2); numbered = omega arith })
+    let file = s .pre .0 .accepted in (
+      s .pre .0,
+      codes-long file (coded .frame-codes .ensures),
+      frame-coded file (coded .frame-codes .ensures),
+      s .pre .1,
+      record { whole = omega (arith, s .pre .2); numbered = omega arith },
+      omega arith,
+      λ t. absurd (false≢true t),
+    )
 
 same-length : tie.Need-same-length
 same-length c = search needs

@@ -5,6 +5,7 @@ use mathlib.Core.Path.{refl, _∙_}
 use native.Mathlib.Omega.{arith}
 use lib.ListN.{length-replicate}
 use Rattle.laws.proofs.Rewritten.{rewritten-first}
+use Rattle.cases.proofs.Probes.{first-covered}
 use Rattle.evaluation.proofs.Given.{evaluable-kept}
 use Rattle.search.proofs.Answers.{block-searched}
 use borrow.Author.Needs.{needs}
@@ -36,6 +37,7 @@ run-requires c κs =
       s .pre .2,
       s .pre .3,
       omega (arith, s .pre .4, made .ensures .past .store-long),
+      rw (made .ensures .state) (first-covered _ _ _),
     )
 
 draw-cases-requires : tie.Need-draw-cases-requires

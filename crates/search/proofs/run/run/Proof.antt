@@ -21,7 +21,7 @@ abbrev μ-loop : tie.MeasureT-loop
     budget - splits
 
 loop-holds : tie.Need-loop-holds Inv-loop μ-loop
-loop-holds c = (reached-first (c .before .before .before .before .before .before .before .pre .1), refl, refl)
+loop-holds c = let pre = c .before .before .before .before .before .before .before .pre in (reached-first (pre .1) (pre .7), refl, refl)
 
 argmax-requires : tie.Need-argmax-requires Inv-loop μ-loop
 argmax-requires c κs = let r = c .before .loop .inv .0 .running in (r .cases .whole, r .some, r .cases .few)
@@ -108,7 +108,7 @@ split-requires c κs =
     let inv = found .before .before .before .before .loop .inv in
     let pre = found .before .before .before .before .before .before .before .before .before .before .before .before .pre in
     let space = split-room (inv .0) (c .before .before .before .before .if3 .left) (pre .5) (pre .6) in
-    (evaluable-kept (pre .0) (inv .1) (inv .2), inv .0 .running, next-found found, pre .2, pre .3, space .0, space .1)
+    (evaluable-kept (pre .0) (inv .1) (inv .2), inv .0 .running, next-found found, pre .2, pre .3, space .0, space .1, inv .0 .covered)
 
 add-splits : tie.Need-add-splits Inv-loop μ-loop
 add-splits c =

@@ -7,7 +7,7 @@ use lib.ListN.{length, length-replicate}
 use borrow.Author.Needs.{needs}
 use Rattle.cases.proofs.Records.{codes-copied}
 use Rattle.evaluation.proofs.Given.{evaluable-kept}
-use Rattle.search.proofs.Splitting.{Splitting, child-room, splitting-begun, splitting-next, case-split}
+use Rattle.search.proofs.Splitting.{Splitting, child-room, parent-below, splitting-begun, splitting-next, case-split}
 use Rattle.search.proofs.split.split.Statement.{statement}
 use Rattle.search.proofs.split.split.Tie as tie
 
@@ -64,6 +64,8 @@ make-child-requires c κs =
       at .inv .3 .best .long ∙ s .pre .1 .pattern-long,
       room .0,
       room .1,
+      at .inv .3 .best .threshold-high,
+      parent-below (ready .accepted .few-inputs) (s .pre .1) (s .pre .2 .inside) (s .pre .7) copied (at .inv .3),
     )
 
 add-e : tie.Need-add-e Inv-loop μ-loop
