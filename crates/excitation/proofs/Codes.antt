@@ -1,7 +1,7 @@
 -- Laws of the codes of uncertainty sets, and of the sets of the inputs, which are given by their codes.
 -- Assumes nothing.
 use Prim.Native.Nat.{ℕ, _+_, _*_, _/_, _%_, _≤_, _<_}
-use mathlib.Core.Bool.{Bool, true, _&&_, _||_, Bool·beq}
+use mathlib.Core.Bool.{_||_}
 use mathlib.Core.List.{List}
 use mathlib.Core.Path.{_≡_, refl, ap, sym}
 use native.Mathlib.Nat.{mul-add-mod-self-left}
@@ -12,12 +12,12 @@ use lib.ListN.{length, getD}
 use borrow.Author.Tests.{eqb-true, ltb-true}
 use Rattle.laws.specs.Below.{allBelow}
 use Rattle.laws.proofs.Below.{all-at}
-use Rattle.laws.proofs.Tests.{and-left, and-right, or-cases}
+use Rattle.laws.proofs.Tests.{or-cases}
 use Rattle.laws.proofs.Turn.{list-at, list-long, list-same}
 use Rattle.excitation.specs.UncertaintySet.{UncertaintySet, member, _∈_, empty, some, code, decode, setsIn, each, invertSet}
 use Rattle.excitation.specs.declared.Excitation.{Excitation}
-use Rattle.excitation.proofs.Finite.{every-at, setOf}
-use Rattle.excitation.proofs.Sets.{level-same, some-gives}
+use Rattle.excitation.proofs.Finite.{every-at}
+use Rattle.excitation.proofs.Sets.{sameSet, same-set, some-gives}
 
 last-bit : (n q r : ℕ) → n ≡ 2 * q + r → r % 2 ≡ n % 2
 last-bit n q r e = rw e (sym (mul-add-mod-self-left 2 q r))
@@ -43,23 +43,8 @@ pub code-below : (s : UncertaintySet) → code s < 16
 unfolding code
 code-below s = ltb-true _ _ (every-at (λ s. ltb (code s) 16) refl s)
 
-sameSet : UncertaintySet → UncertaintySet → Bool
-sameSet s t =
-    Bool·beq (s .has-l) (t .has-l) && (Bool·beq (s .has-h) (t .has-h) && (Bool·beq (s .has-hl) (t .has-hl) && Bool·beq (s .has-lh) (t .has-lh)))
-
-same-set : (s t : UncertaintySet) → sameSet s t ≡ true → s ≡ t
-unfolding sameSet
-same-set s t e =
-    let f = and-right (Bool·beq (s .has-l) (t .has-l)) _ e in
-    let g = and-right (Bool·beq (s .has-h) (t .has-h)) _ f in
-    let a = level-same (s .has-l) (t .has-l) (and-left _ _ e) in
-    let b = level-same (s .has-h) (t .has-h) (and-left _ _ f) in
-    let c = level-same (s .has-hl) (t .has-hl) (and-left _ _ g) in
-    let d = level-same (s .has-lh) (t .has-lh) (and-right (Bool·beq (s .has-hl) (t .has-hl)) _ g) in
-    λ i. setOf (a i) (b i) (c i) (d i)
-
 pub decode-code : (s : UncertaintySet) → decode (code s) ≡ s
-unfolding sameSet code decode
+unfolding code decode
 decode-code s = same-set (decode (code s)) s (every-at (λ s. sameSet (decode (code s)) s) refl s)
 
 -- A number 1 to 15 codes a set that has a member.

@@ -20,14 +20,14 @@ for-each P at-l at-h at-hl at-lh e = go (e .before) (e .after)
 abbrev pub setOf : Bool → Bool → Bool → Bool → UncertaintySet
 setOf a b c d = record { has-l = a; has-h = b; has-hl = c; has-lh = d }
 
-abbrev bothLevels : (Bool → Bool) → Bool
+abbrev pub bothLevels : (Bool → Bool) → Bool
 bothLevels p = p true && p false
 
 -- Whether a test passes at all sixteen sets.
-abbrev everySet : (UncertaintySet → Bool) → Bool
+abbrev pub everySet : (UncertaintySet → Bool) → Bool
 everySet p = bothLevels (λ a. bothLevels (λ b. bothLevels (λ c. bothLevels (λ d. p (setOf a b c d)))))
 
-both-at : (p : Bool → Bool) → bothLevels p ≡ true → (b : Bool) → p b ≡ true
+pub both-at : (p : Bool → Bool) → bothLevels p ≡ true → (b : Bool) → p b ≡ true
 both-at p e true = and-left (p true) (p false) e
 both-at p e false = and-right (p true) (p false) e
 

@@ -7,7 +7,7 @@ use Rattle.laws.proofs.Tests.{and-left, and-right, and-both, or-first, or-secon
 use Rattle.excitation.specs.declared.Excitation.{Excitation}
 use Rattle.excitation.specs.Excitation.{TwoLevel, excitation, l, h, hl, lh, same, joinExcitations}
 use Rattle.excitation.specs.UncertaintySet.{UncertaintySet, member, _∈_, _⊆_, empty, setWhere, some, joinOfOne, joinOfBoth, joinSets, madeOf, each}
-use Rattle.excitation.proofs.Finite.{for-each}
+use Rattle.excitation.proofs.Finite.{for-each, setOf}
 
 pub member-where : (p : Excitation → Bool) (e : Excitation) → member e (setWhere p) ≡ p e
 unfolding member
@@ -87,6 +87,25 @@ each-members g s e m =
 pub set-is : (s t : UncertaintySet) → ((e : Excitation) → member e s ≡ member e t) → s ≡ t
 unfolding member
 set-is s t p = λ i. record { has-l = p l i; has-h = p h i; has-hl = p hl i; has-lh = p lh i }
+
+-- Whether two sets are the same, as a test that can be computed.
+abbrev pub sameSet : UncertaintySet → UncertaintySet → Bool
+sameSet s t =
+    Bool·beq (s .has-l) (t .has-l) && (Bool·beq (s .has-h) (t .has-h) && (Bool·beq (s .has-hl) (t .has-hl) && Bool·beq (s .has-lh) (t .has-lh)))
+
+pub same-set : (s t : UncertaintySet) → sameSet s t ≡ true → s ≡ t
+same-set s t e =
+    let f = and-right (Bool·beq (s .has-l) (t .has-l)) _ e in
+    let g = and-right (Bool·beq (s .has-h) (t .has-h)) _ f in
+    let a = level-same (s .has-l) (t .has-l) (and-left _ _ e) in
+    let b = level-same (s .has-h) (t .has-h) (and-left _ _ f) in
+    let c = level-same (s .has-hl) (t .has-hl) (and-left _ _ g) in
+    let d = level-same (s .has-lh) (t .has-lh) (and-right (Bool·beq (s .has-hl) (t .has-hl)) _ g) in
+    λ i. setOf (a i) (b i) (c i) (d i)
+
+-- Four equations of members are one of sets.
+pub four-members : {a b c d a′ b′ c′ d′ : Bool} → a ≡ a′ → b ≡ b′ → c ≡ c′ → d ≡ d′ → setOf a b c d ≡ setOf a′ b′ c′ d′
+four-members p q r s = λ i. setOf (p i) (q i) (r i) (s i)
 
 -- A set with no member, joined with any set on either side, gives a set with no member.
 pub join-empty-first : (f : TwoLevel) (t : UncertaintySet) → joinSets f empty t ≡ empty

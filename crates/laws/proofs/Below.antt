@@ -1,10 +1,10 @@
 -- Laws of what is defined over the numbers below n.
 -- Assumes nothing.
-use Prim.Native.Nat.{ℕ, zero, suc, _+_, _*_, _≤_, _<_, max}
-use mathlib.Core.Path.{_≡_, refl, sym}
+use Prim.Native.Nat.{ℕ, zero, suc, _+_, _-_, _*_, _≤_, _<_, max}
+use mathlib.Core.Path.{_≡_, refl, sym, ap, _∙_}
 use mathlib.Core.Bool.{Bool, true, false, cond, _&&_, and-true, and-assoc}
 use mathlib.Core.Logic.{⊎-elim}
-use native.Mathlib.Nat.{not-suc-le-zero, eq-or-lt-of-le, le-of-suc-le-suc, mul-le-mul-right}
+use native.Mathlib.Nat.{add-zero, add-suc, not-suc-le-zero, eq-or-lt-of-le, le-of-suc-le-suc, mul-le-mul-right}
 use native.Mathlib.Numerals.{add-one}
 use native.Mathlib.Omega.{arith}
 use lib.Dec.{eqb, ltb}
@@ -136,11 +136,32 @@ unfolding countBelow
 count-same zero p q same = refl
 count-same (suc n) p q same = rw (count-same n p q (λ k h. same k (omega arith)), same n (omega arith)) refl
 
+-- A test that passes wherever another does counts no fewer.
+pub count-implied : (n : ℕ) (p q : ℕ → Bool) → ((k : ℕ) → k < n → p k ≡ true → q k ≡ true) → countBelow n p ≤ countBelow n q
+unfolding countBelow
+count-implied zero p q passes = omega arith
+count-implied (suc n) p q passes =
+    let h = count-implied n p q (λ k l. passes k (omega arith)) in
+    cases (p n) (λ t. rw (t, passes n (omega arith) t) (omega arith)) (λ t. rw t (omega arith))
+
 -- Where none passes, the count is 0.
 pub count-none : (n : ℕ) (p : ℕ → Bool) → ((k : ℕ) → k < n → p k ≡ false) → countBelow n p ≡ 0
 unfolding countBelow
 count-none zero p none = refl
 count-none (suc n) p none = rw (count-none n p (λ k h. none k (omega arith)), none n (omega arith)) refl
+
+-- The count of one stretch after another.
+pub count-append : (m n : ℕ) (p : ℕ → Bool) → countBelow (m + n) p ≡ countBelow m p + countBelow n (λ k. p (m + k))
+unfolding countBelow
+count-append m zero p = rw (add-zero m) (sym (add-zero (countBelow m p)))
+count-append m (suc n) p = rw add-suc (omega (arith, count-append m n p))
+
+-- Where none passes from n on, the count is that of the numbers below n.
+pub count-beyond : (m n : ℕ) (p : ℕ → Bool) → n ≤ m → ((k : ℕ) → n ≤ k → k < m → p k ≡ false) → countBelow m p ≡ countBelow n p
+count-beyond m n p h none =
+    let split : m ≡ n + (m - n) = omega arith in
+    let rest = count-none (m - n) (λ k. p (n + k)) (λ k l. none (n + k) (omega arith) (omega arith)) in
+    ap (λ k. countBelow k p) split ∙ omega (arith, count-append n (m - n) p)
 
 -- The greatest and the sum of values that are the same, or no greater, number by number.
 

@@ -2,3 +2,4 @@ pub mod Ascii
 pub mod Below
 pub mod Turn
 pub mod Rewritten
+pub mod Settled

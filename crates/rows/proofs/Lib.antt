@@ -1,0 +1,2 @@
+pub mod Excitations
+pub mod Rows
