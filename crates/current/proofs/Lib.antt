@@ -5,6 +5,7 @@ pub mod Pulses
 pub mod Rows
 pub mod Ticks
 pub mod Bits
+pub mod Transitions
 pub mod Edges
 pub mod Gates
 pub mod Contacts

@@ -2,9 +2,9 @@
 -- Assumes nothing.
 use Prim.Native.Nat.{ℕ, zero, suc, _+_, _≤_, _<_}
 use mathlib.Core.Bool.{Bool, true, false, cond, false≢true}
-use mathlib.Core.List.{List, [], _∷_, List·Memᴰ, List·Memᴰ·head, List·Memᴰ·tail, List·Memᴰ·not-nil, List·Memᴰ·cases-cons, Forall₂, Forall₂·nil, Forall₂·cons}
+use mathlib.Core.List.{List, [], _∷_, map, List·Memᴰ, List·Memᴰ·head, List·Memᴰ·tail, List·Memᴰ·not-nil, List·Memᴰ·cases-cons, Forall₂, Forall₂·nil, Forall₂·cons}
 use mathlib.Core.Logic.{⊎-elim}
-use mathlib.Core.Path.{_≡_, refl, sym, _∙_}
+use mathlib.Core.Path.{_≡_, refl, sym, ap, _∙_}
 use native.Mathlib.Nat.{le-refl, not-suc-le-zero, le-of-suc-le-suc}
 use native.Mathlib.Omega.{arith}
 use lib.Dec.{ltb}
@@ -12,6 +12,12 @@ use lib.ListN.{length, getD}
 use borrow.Author.Tests.{ltb-true, ltb-false}
 use borrow.Table.Steps.{cases}
 use Rattle.current.specs.Current.{ticksWhere, greatestAt}
+
+-- The ticks are those of what the test says of each value.
+pub ticks-by-test : {A : Type 0} (p : A → Bool) (t : ℕ) (values : List A) → ticksWhere p t values ≡ ticksWhere (λ held. held) t (map p values)
+unfolding ticksWhere
+ticks-by-test p t [] = refl
+ticks-by-test p t (v ∷ later) = ap (λ rest. cond (p v) (t ∷ rest) rest) (ticks-by-test p (suc t) later)
 
 -- A bound of the value at each tick is a bound of the greatest.
 pub greatest-within : (f : ℕ → ℕ) (ticks : List ℕ) (bound : ℕ) → ((x : ℕ) → List·Memᴰ x ticks → f x ≤ bound) → greatestAt f ticks ≤ bound

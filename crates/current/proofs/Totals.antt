@@ -12,8 +12,8 @@ use Rattle.laws.specs.Below.{maxBelow, sumBelow}
 use Rattle.laws.proofs.Below.{max-within, sum-within, sum-at, sum-fewer, sum-weighted, sum-one-more}
 use Rattle.block.specs.Limits.{gateLimit, blockLimit, resistanceLimit, dropLimit}
 use Rattle.block.specs.declared.Gate.{Gate}
-use Rattle.current.specs.Current.{Sheet, gateCurrent, dropAt, dropOf}
-use Rattle.current.specs.Drawing.{sheetIn, transitionsIn, Drawn}
+use Rattle.current.specs.Current.{Sheet, Transitions, gateCurrent, dropAt, dropOf}
+use Rattle.current.specs.Drawing.{sheetIn, Drawn}
 use Rattle.current.specs.Words.{Cleared}
 
 -- Cleared words have none, and a gate that is drawn adds at most what a gate draws.
@@ -22,16 +22,16 @@ pub total-cleared : {words : List ℕ} → Cleared words → (t : ℕ) → sumBe
 total-cleared {words} none t =
     omega (arith, sum-within 16 (λ c. sheetIn words c t) 0 (λ c h. rw (none .at (512 * c + t)) (omega arith)))
 
-module _ {gate : Gate} {codes words after : List ℕ} (drawn : Drawn gate codes words after) (t : ℕ) (tick : t < 512) where
+module _ {gate : Gate} {transitions : Transitions} {words after : List ℕ} (drawn : Drawn gate transitions words after) (t : ℕ) (tick : t < 512) where
   word-drawn : (c : ℕ) → c < 16 → sheetIn after c t ≤ sheetIn words c t + cond (eqb (gate .contact) c) gateLimit 0
   word-drawn c h =
       let row : (512 * c + t) / 512 ≡ c = omega arith in
       let place : (512 * c + t) % 512 ≡ t = omega arith in
       let most = drawn .most t in
-      let at : sheetIn after c t ≡ sheetIn words c t + cond (eqb (gate .contact) c) (gateCurrent gate (transitionsIn codes) t) 0 =
+      let at : sheetIn after c t ≡ sheetIn words c t + cond (eqb (gate .contact) c) (gateCurrent gate transitions t) 0 =
       rw (row, place) at (drawn .at (512 * c + t) (omega arith)) in
       cases (eqb (gate .contact) c)
-      (λ b. let added : sheetIn after c t ≡ sheetIn words c t + gateCurrent gate (transitionsIn codes) t = rw b at at in rw b (omega arith))
+      (λ b. let added : sheetIn after c t ≡ sheetIn words c t + gateCurrent gate transitions t = rw b at at in rw b (omega arith))
       (λ b. let same : sheetIn after c t ≡ sheetIn words c t + 0 = rw b at at in rw b (omega arith))
 
   pub total-drawn : sumBelow 16 (λ c. sheetIn after c t) ≤ sumBelow 16 (λ c. sheetIn words c t) + gateLimit

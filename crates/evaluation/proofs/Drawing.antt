@@ -14,8 +14,8 @@ use Rattle.laws.specs.Below.{sumBelow}
 use Rattle.laws.specs.Turn.{inTurn, listBelow}
 use Rattle.laws.proofs.Below.{max-same, sum-next, sum-within}
 use Rattle.laws.proofs.Turn.{turn-next, turn-is, list-at, list-long, list-next, list-same}
-use Rattle.excitation.specs.Excitation.{l, hl, lh}
-use Rattle.excitation.specs.UncertaintySet.{UncertaintySet, member, decode, empty, single, Held, setsIn}
+use Rattle.excitation.specs.Excitation.{l}
+use Rattle.excitation.specs.UncertaintySet.{UncertaintySet, empty, single, Held, setsIn}
 use Rattle.excitation.proofs.Codes.{set-at}
 use Rattle.block.specs.Accepted.{AcceptedFile, GateRecord}
 use Rattle.block.specs.Block.{latestPin, arrivalFrom, arrivals, arrival, switchingTick}
@@ -24,10 +24,10 @@ use Rattle.block.specs.Record.{File, netCount, isInput}
 use Rattle.block.specs.View.{pinOf, GateRead}
 use Rattle.block.specs.declared.Gate.{Gate}
 use Rattle.block.proofs.Accepted.{arrival-at}
-use Rattle.fill.specs.Codes.{setsOf}
+use Rattle.rows.specs.Rows.{setIn}
 use Rattle.waveform.specs.Rows.{waveformIn, waveformsIn, arrivalIn, arrivalsIn, lastIn, latestIn, SettledRow, Ready, GateMade}
 use Rattle.waveform.specs.Waveform.{envelope, inputWaveform, gateWaveform, netWaveform, waveforms}
-use Rattle.waveform.proofs.Settles.{Settles, firstTick, waveformOf, waveform-at, net-settles}
+use Rattle.waveform.proofs.Settles.{SwitchesWithin, firstTick, waveformOf, waveform-at, net-settles}
 use Rattle.waveform.proofs.Waveforms.{net-input, net-gate}
 use Rattle.current.specs.Current.{Transitions, ticksWhere, gateCurrent, part, contactCurrent, sheetWords, transitionsOf, sheetOf}
 use Rattle.current.specs.Drawing.{sheetIn, transitionsIn, Drawable, Drawn}
@@ -94,7 +94,7 @@ module _ (file : File) (nets inputs : ℕ) (accepted : AcceptedFile file nets in
         in-time = (let a = accepted .arrives n here in omega (arith, arrival-is, a));
       }
 
-      module _ {after codes : List ℕ} (made : GateMade n gate hops work after codes) where
+      module _ {after : List ℕ} (made : GateMade n gate hops work after) where
         pub next-arrives : arrivalIn after n ≡ arrival file n
         next-arrives = made .arrives ∙ arrival-is
 
@@ -125,45 +125,33 @@ module _ (file : File) (nets inputs : ℕ) (accepted : AcceptedFile file nets in
             list-next n (arrivalIn after) ∙ ap (λ ts. ts ++ (arrivalIn after n ∷ [])) (times-kept ∙ done .times)
             ∙ ap (λ t. arrivals file n ++ (t ∷ [])) next-arrives ∙ sym (turn-next (arrivalFrom file) n)
 
-        ticks-are : setsOf codes ≡ waveformOf file nets inputs accepted hops sets n .ticks
-        unfolding waveformOf
-        ticks-are = made .ticks ∙ ap (λ w. w .ticks) made-is
+        set-is : (t : ℕ) → t < 256 → setIn after n t ≡ getD (waveformOf file nets inputs accepted hops sets n .ticks) t empty
+        unfolding waveformIn waveformOf
+        set-is t h = sym (list-at 256 (setIn after n) t empty h) ∙ ap (λ w. getD (w .ticks) t empty) made-is
 
-        set-in : (t : ℕ) → decode (getD codes t 0) ≡ getD (waveformIn after n .ticks) t empty
-        unfolding setsOf decode
-        set-in t = sym (List·getD-map decode codes t 0) ∙ ap (λ xs. getD xs t (decode 0)) (made .ticks)
-
-        coded-at : (t : ℕ) → decode (getD codes t 0) ≡ getD (waveformOf file nets inputs accepted hops sets n .ticks) t empty
-        unfolding waveformOf
-        coded-at t = set-in t ∙ ap (λ w. getD (w .ticks) t empty) made-is
-
-        settles : Settles (firstTick file n) (arrival file n) (waveformOf file nets inputs accepted hops sets n)
+        settles : SwitchesWithin (firstTick file n) (arrival file n) (waveformOf file nets inputs accepted hops sets n)
         settles = net-settles file nets inputs accepted hops sets n here
 
         first-tick : firstTick file n ≡ gate .delay
         first-tick = rw no-input (ap (λ g. g .delay) (sym (read .is)))
 
-        early : (t : ℕ) → t < gate .delay → Held (decode (getD codes t 0))
-        early t h = subst Held (sym (coded-at t)) (settles .early t (rw first-tick h))
+        early : (t : ℕ) → t < gate .delay → Held (setIn after n t)
+        early t h =
+            let short = next-checked .ranges .delay-high in
+            subst Held (sym (set-is t (omega arith))) (settles .early t (rw first-tick h))
 
-        late : (t : ℕ) → arrival file n < t → Held (decode (getD codes t 0))
-        late t h = subst Held (sym (coded-at t)) (settles .late t h)
+        late : (t : ℕ) → arrival file n < t → t < 256 → Held (setIn after n t)
+        late t h q = subst Held (sym (set-is t q)) (settles .late t h)
 
-        -- After the tick from which on its sets are the same it has the set of tick 255, past its arrival.
-        last-set : (t : ℕ) → lastIn after n < t → t < 256 → decode (getD codes t 0) ≡ decode (getD codes 255 0)
-        last-set t h q = set-in t ∙ made .settled .settled .same t h q ∙ sym (set-in 255)
-
-        -- A gate that arrives at tick 255 has no tick after it.
-        later : (last t : ℕ) → last ≡ lastIn after n → last < t → Held (decode (getD codes t 0))
-        later last t e h =
+        -- After the tick from which on its sets are the same it has the set of tick 255, past its arrival. A gate that arrives at tick 255
+        -- has no tick after it.
+        later : (last t : ℕ) → last ≡ lastIn after n → last < t → t < 256 → Held (setIn after n t)
+        later last t e h q =
             let arrives = accepted .arrives n here in
-            cases (ltb t 256)
-            (λ b. let q = ltb-true t 256 b in
             cases (eqb (arrivalIn after n) 255)
             (λ z. let end = made .at-end (eqb-true (arrivalIn after n) 255 z) in absurd (omega arith))
             (λ z. let early : (arrivalIn after n ≡ 255 → ⊥) = eqb-false (arrivalIn after n) 255 z in
-            subst Held (sym (last-set t (omega arith) q)) (late 255 (omega (arith, next-arrives)))))
-            (λ b. let q = ltb-false t 256 b in late t (omega arith))
+            subst Held (sym (made .settled .settled .same t (omega arith) q)) (late 255 (omega (arith, next-arrives)) (omega arith)))
 
         -- It can be drawn.
         word-low : (i : ℕ) → getD words i 0 ≤ n * gateLimit
@@ -172,36 +160,34 @@ module _ (file : File) (nets inputs : ℕ) (accepted : AcceptedFile file nets in
             (λ b. let q = ltb-true i 8192 b in omega (arith, word-within-total words i q, done .most (i % 512) (omega arith)))
             (λ b. let q = ltb-false i 8192 b in omega (arith, List·getD-eq-default words 0 {n = i} (omega (arith, done .long))))
 
-        pub next-drawable : (last : ℕ) → last ≡ lastIn after n → Drawable gate codes last words
-        next-drawable last e = record {
+        pub next-drawable : HasRows work nets → (last : ℕ) → last ≡ lastIn after n → Drawable gate after n last words
+        next-drawable rows last e = record {
           ranges = next-checked .ranges;
           fits = read .fits;
-          coded = made .coded;
+          row = has-row n (record { whole = omega (arith, rows .whole, made .others .long); numbered = rows .numbered }) here;
           in-time = (let arrives = accepted .arrives n here in omega (arith, made .settled .soon, next-arrives));
           between = record {
             no-rise-before = λ t h. early t h .no-lh;
             no-fall-before = λ t h. early t h .no-hl;
-            no-rise-after = λ t h. later last t e h .no-lh;
-            no-fall-after = λ t h. later last t e h .no-hl;
+            no-rise-after = λ t h q. later last t e h q .no-lh;
+            no-fall-after = λ t h q. later last t e h q .no-hl;
           };
           long = done .long;
           room = λ i. (let q = accepted .few-nets in omega (arith, word-low i));
         }
 
-        transitions-are : transitionsIn codes ≡ getD transitions n (record { rises = []; falls = [] })
-        unfolding transitionsIn transitionsOf
-        transitions-are =
-            ap (λ xs. record { rises = ticksWhere (member lh) 0 xs; falls = ticksWhere (member hl) 0 xs }) ticks-are
-            ∙ sym (net-transitions n (omega arith))
+        transitions-are : transitionsIn after n ≡ getD transitions n (record { rises = []; falls = [] })
+        unfolding transitionsIn transitionsOf waveformOf
+        transitions-are = ap (transitionsOf (envelope hops)) made-is ∙ sym (net-transitions n (omega arith))
 
-        part-is : (c t : ℕ) → cond (eqb (gate .contact) c) (gateCurrent gate (transitionsIn codes) t) 0 ≡ part file transitions c t n
+        part-is : (c t : ℕ) → cond (eqb (gate .contact) c) (gateCurrent gate (transitionsIn after n) t) 0 ≡ part file transitions c t n
         part-is c t =
             ap (λ ts. cond (eqb (gate .contact) c) (gateCurrent gate ts t) 0) transitions-are
             ∙ ap (λ g. cond (eqb (g .contact) c) (gateCurrent g (getD transitions n (record { rises = []; falls = [] })) t) 0) (read .is)
             ∙ sym (part-of-gate file transitions c t n no-input)
 
         -- And then it is evaluated.
-        pub next-evaluated : {drawn : List ℕ} → Drawn gate codes words drawn → Evaluating file hops sets (n + 1) after drawn
+        pub next-evaluated : {drawn : List ℕ} → Drawn gate (transitionsIn after n) words drawn → Evaluating file hops sets (n + 1) after drawn
         next-evaluated drawn = record {
           waves = waves-next;
           times = times-next;

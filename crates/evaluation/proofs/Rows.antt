@@ -1,19 +1,18 @@
 -- Laws of the rows of a work buffer: those of other nets stay as one is written.
 -- Assumes nothing.
-use Prim.Native.Nat.{ℕ, _+_, _-_, _<_}
+use Prim.Native.Nat.{ℕ, _+_, _<_}
 use mathlib.Core.List.{List}
-use mathlib.Core.Path.{_≡_, refl, ap, _∙_}
+use mathlib.Core.Path.{_≡_, refl, ap, sym, _∙_}
 use native.Mathlib.Omega.{arith}
-use lib.Dec.{ltb}
 use lib.ListN.{getD}
 use borrow.Author.Count.{below-more}
-use borrow.Author.Tests.{ltb-true, ltb-false}
-use borrow.Table.Steps.{cases}
 use Rattle.laws.proofs.Turn.{list-same}
 use Rattle.excitation.specs.UncertaintySet.{decode, empty}
 use Rattle.block.specs.Block.{switchingTick}
 use Rattle.block.specs.Record.{File}
-use Rattle.waveform.specs.Rows.{codeIn, waveformIn, arrivalIn, lastIn, HasRow, SettledRow, OthersKept, InputMade}
+use Rattle.rows.specs.Rows.{HasRow, setIn}
+use Rattle.rows.proofs.Rows.{sets-kept}
+use Rattle.waveform.specs.Rows.{waveformIn, arrivalIn, lastIn, SettledRow, OthersKept, InputMade}
 use Rattle.waveform.specs.Waveform.{envelope, inputWaveform}
 use Rattle.waveform.proofs.Waveforms.{waveform-is}
 use Rattle.evaluation.specs.Evaluation.{HasRows, InputsMade}
@@ -22,18 +21,14 @@ pub has-row : {work : List ℕ} {nets : ℕ} (net : ℕ) → HasRows work nets �
 has-row net rows h = record { whole = omega (arith, rows .whole); numbered = omega (arith, rows .numbered) }
 
 module _ {net : ℕ} {work after : List ℕ} (kept : OthersKept net work after) where
-  code-kept : (other t : ℕ) → (other ≡ net → ⊥) → t < 256 → codeIn after other t ≡ codeIn work other t
-  unfolding codeIn
-  code-kept other t n h =
-      cases (ltb t 128)
-      (λ b. let q = ltb-true t 128 b in rw (b, kept .kept other t n (omega arith)) refl)
-      (λ b. let q = ltb-false t 128 b in rw (b, kept .kept other (t - 128) n (omega arith)) refl)
+  set-kept : (other t : ℕ) → (other ≡ net → ⊥) → t < 256 → setIn after other t ≡ setIn work other t
+  set-kept other t n h = sets-kept other work after (λ k l. kept .kept other k n (omega arith)) t h
 
   pub waveform-kept : (other : ℕ) → (other ≡ net → ⊥) → waveformIn after other ≡ waveformIn work other
   unfolding waveformIn
   waveform-kept other n =
       waveform-is _ _ (ap decode (kept .kept other 128 n (omega arith)))
-      (list-same 256 (λ t. decode (codeIn after other t)) (λ t. decode (codeIn work other t)) empty (λ t h. ap decode (code-kept other t n h)))
+      (list-same 256 (setIn after other) (setIn work other) empty (λ t h. set-kept other t n h))
 
   pub arrival-kept : (other : ℕ) → (other ≡ net → ⊥) → arrivalIn after other ≡ arrivalIn work other
   arrival-kept other n = kept .kept other 129 n (omega arith)
@@ -43,7 +38,7 @@ module _ {net : ℕ} {work after : List ℕ} (kept : OthersKept net work after) 
       let last : lastIn after other ≡ lastIn work other = kept .kept other 130 n (omega arith) in
       record {
         soon = omega (arith, last, arrival-kept other n, s .soon);
-        settled = rw (last, waveform-kept other n) (s .settled);
+        settled = record { same = λ t h q. set-kept other t n q ∙ s .settled .same t (omega arith) q ∙ sym (set-kept other 255 n (omega arith)) };
       }
 
 -- The inputs' waveforms, one after the other.

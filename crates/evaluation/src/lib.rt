@@ -45,15 +45,14 @@ fn draw(file: &[u8], setting: Setting, codes: &[u8], sheet: &mut [Word], work: &
     ensures { λ r. ⌜ BlockDrawn (now (file .entry)) setting (now (codes .entry)) r (now (sheet .exit)) ⌝ }
 {
     let joins = excitation::joins();
-    let mut sets = [0u8; 256];
     current::clear(sheet);
     make_inputs(file, codes, setting.inputs, work);
     let mut settling: usize = 0;
     let mut net = setting.inputs;
     while net < setting.nets {
         let gate = view::gate(file, Net(net));
-        let last = waveform::gate_waveform(Net(net), gate, &joins, setting.hops, work, &mut sets);
-        current::draw_gate(gate, &sets, last, sheet);
+        let last = waveform::gate_waveform(Net(net), gate, &joins, setting.hops, work);
+        current::draw_gate(gate, work, Net(net), last, sheet);
         let arrival = waveform::arrival(work, Net(net));
         settling = numbers::max_usize(settling, last_pulse_end(gate, arrival));
         net += 1;

@@ -6,22 +6,19 @@ use mathlib.Core.Bool.{Bool, false}
 use mathlib.Core.List.{List, [], _∷_, map}
 use mathlib.Core.Path.{_≡_, refl, sym, ap, _∙_}
 use native.Mathlib.Omega.{arith}
-use lib.Dec.{ltb}
-use lib.ListN.{length, getD, length-map, List·getD-map, List·getD-eq-default}
-use borrow.Author.Tests.{ltb-true, ltb-false}
-use borrow.Table.Steps.{cases}
+use lib.ListN.{length, getD, length-map, List·getD-map}
 use Rattle.excitation.specs.Excitation.{l, h, hl, lh}
 use Rattle.excitation.specs.UncertaintySet.{UncertaintySet, member, _∈_, empty}
 use Rattle.excitation.specs.declared.Excitation.{Excitation}
 use Rattle.excitation.proofs.Finite.{for-each}
 use Rattle.excitation.proofs.Sets.{set-is}
+use Rattle.runs.specs.Runs.{runs}
 use Rattle.fill.specs.Fill.{holding, fillTicks, setsHolding, filled}
-use Rattle.fill.specs.Runs.{runs}
-use Rattle.fill.proofs.Ticks.{length-fill, fill-adds, fill-not-before, fill-not-after, fill-few, fill-none, few-runs}
+use Rattle.fill.proofs.Ticks.{length-fill, fill-adds, fill-not-before, fill-not-after, fill-kept, fill-few, fill-none, few-runs}
 
 -- Sets and the ticks that hold each excitation.
 
-pub length-holding : (e : Excitation) (xs : List UncertaintySet) → length (holding e xs) ≡ length xs
+length-holding : (e : Excitation) (xs : List UncertaintySet) → length (holding e xs) ≡ length xs
 unfolding holding
 length-holding e xs = length-map xs (member e)
 
@@ -29,7 +26,7 @@ none-in-empty : (e : Excitation) → member e empty ≡ false
 unfolding member
 none-in-empty = for-each (λ e. member e empty ≡ false) refl refl refl refl
 
-pub holding-at : (e : Excitation) (xs : List UncertaintySet) (t : ℕ) → getD (holding e xs) t false ≡ member e (getD xs t empty)
+holding-at : (e : Excitation) (xs : List UncertaintySet) (t : ℕ) → getD (holding e xs) t false ≡ member e (getD xs t empty)
 unfolding holding
 holding-at e xs t = ap (getD (map (member e) xs) t) (sym (none-in-empty e)) ∙ List·getD-map (member e) xs t empty
 
@@ -118,22 +115,19 @@ module _ (hops : ℕ) (xs : List UncertaintySet) (long : length xs ≡ 256) wher
 
   module _ (s : ℕ) (same : (t : ℕ) → s ≤ t → t < 256 → getD xs t empty ≡ getD xs s empty) where
     filled-kept : (t : ℕ) → s ≤ t → t < 256 → getD (filled hops xs) t empty ≡ getD xs t empty
-    filled-kept t after within = set-is (getD (filled hops xs) t empty) (getD xs t empty) each
-      where
-        none-after : (e : Excitation) → member e (getD xs s empty) ≡ false → (u : ℕ) → s ≤ u → member e (getD xs u empty) ≡ false
-        none-after e n u k =
-            cases (ltb u 256)
-            (λ low. ap (member e) (same u k (ltb-true u 256 low)) ∙ n)
-            (λ high. ap (member e) (List·getD-eq-default xs empty (omega (arith, ltb-false u 256 high))) ∙ none-in-empty e)
-
-        each : (e : Excitation) → member e (getD (filled hops xs) t empty) ≡ member e (getD xs t empty)
-        each e =
-            cases (member e (getD xs s empty))
-            (λ m. let there = ap (member e) (same t after within) ∙ m in filled-adds e t there ∙ sym there)
-            (λ n. filled-not-after e s (none-after e n) t after ∙ sym (none-after e n t after))
+    filled-kept t after within =
+        set-is (getD (filled hops xs) t empty) (getD xs t empty)
+        (λ e. filled-at hops xs e t
+        ∙ fill-kept hops (holding e xs) (ticks e) s
+        (λ u k low. holding-at e xs u ∙ ap (member e) (same u k low) ∙ sym (holding-at e xs s)) t after within
+        ∙ holding-at e xs t)
 
     pub filled-settled : (t : ℕ) → s ≤ t → t < 256 → getD (filled hops xs) t empty ≡ getD (filled hops xs) s empty
     filled-settled t after within = filled-kept t after within ∙ same t after within ∙ sym (filled-kept s (omega arith) (omega arith))
+
+  -- The set at the last tick stays.
+  pub filled-last : getD (filled hops xs) 255 empty ≡ getD xs 255 empty
+  filled-last = filled-kept 255 (λ t after within. ap (λ u. getD xs u empty) (omega arith)) 255 (omega arith) (omega arith)
 
   -- Where no excitation has more runs than the hop limit, nothing is filled.
   pub filled-same : ((e : Excitation) → length (runs (holding e xs)) ≤ hops) → filled hops xs ≡ xs

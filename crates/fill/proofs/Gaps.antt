@@ -7,12 +7,13 @@ use mathlib.Core.Path.{_≡_, refl, sym, subst, ap, _∙_}
 use native.Mathlib.Omega.{arith}
 use lib.Dec.{leb, ltb}
 use lib.ListN.{length}
-use borrow.Author.Tests.{leb-true, leb-false, ltb-true, ltb-false, le-leb, eq-eqb, ne-eqb, lt-ltb}
+use borrow.Author.Tests.{leb-true, leb-false, ltb-true, le-leb, eq-eqb, ne-eqb, lt-ltb}
 use borrow.Table.Steps.{cases}
 use Rattle.laws.proofs.Tests.{and-both, and-first-fails, and-second-fails, or-first, or-second}
-use Rattle.fill.specs.Runs.{Run, run, Gap, gap, gapsAfter, gaps, shorter, shortest, close, closeFirst, closeShortest, inside}
-use Rattle.fill.specs.Scan.{shortestGap, inGap}
-use Rattle.fill.proofs.Runs.{Apart, none, next, inside-first, inside-rest, inside-before}
+use Rattle.runs.specs.Runs.{Run, run, inside}
+use Rattle.runs.proofs.Runs.{Apart, none, next, inside-first, inside-rest}
+use Rattle.fill.specs.Filling.{shortestGap}
+use Rattle.fill.specs.Gaps.{Gap, gap, gapsAfter, gaps, shorter, shortest, close, closeFirst, closeShortest}
 
 -- A gap between two neighbours of the first runs, which are one run of the second.
 pub data Closed : Gap → List Run → List Run → Type 0 where
@@ -37,42 +38,24 @@ pub gap-before : {t end start size : ℕ} {rs rs′ : List Run} → Apart t end 
 gap-before (next low ordered high (next low′ ordered′ high′ more)) (here e f) = omega arith
 gap-before (next low ordered high more) (there c) = gap-before more c
 
--- The tick after a gap is inside a run, and the gap's last tick is not.
-pub gap-end : {t end start size k : ℕ} {rs rs′ : List Run} → Apart t end rs → Closed (gap start size) rs rs′ → suc k ≡ start + size
-    → (inside k rs ≡ false) × (inside (suc k) rs ≡ true)
-gap-end {k = k} (next {first = first} {last = last} low ordered high (next {first = first′} {last = last′} {rest = rest} between ordered′ high′ more))
-    (here e f) at = (
-      inside-rest k first last (run first′ last′ ∷ rest) (λ p q. omega arith)
-          ∙ inside-rest k first′ last′ rest (λ p q. omega arith)
-          ∙ inside-before k more (omega arith),
-      inside-rest (suc k) first last (run first′ last′ ∷ rest) (λ p q. omega arith)
-          ∙ inside-first (suc k) first′ last′ rest (omega arith) (omega arith),
-    )
-gap-end {k = k} (next {first = first} {last = last} low ordered high more) (there {rest = rest} c) at =
-    let after = gap-after more c in
-    let rest-end = gap-end more c at in
-    let past : last < k = omega arith in
-    (inside-rest k first last rest (λ p q. omega arith) ∙ rest-end .0, inside-rest (suc k) first last rest (λ p q. omega arith) ∙ rest-end .1)
-
 -- A tick lies inside a run once a gap is closed, where it did before or it is a tick of the gap.
+
+-- Whether a tick is one of a gap's.
+unfoldable pub inGap : ℕ → ℕ → ℕ → Bool
+inGap start size t = leb start t && ltb t (start + size)
 
 in-gap : (start size u : ℕ) → start ≤ u → u < start + size → inGap start size u ≡ true
 unfolding inGap
 in-gap start size u low high = and-both (le-leb start u low) (lt-ltb u (start + size) high)
 
--- A tick is one of a gap's, or not.
-pub in-or-out : {P : Type 0} (start size u : ℕ) → (start ≤ u → u < start + size → inGap start size u ≡ true → P)
-    → ((start ≤ u → u < start + size → ⊥) → inGap start size u ≡ false → P) → P
+out-of-gap : (start size u : ℕ) → (start ≤ u → u < start + size → ⊥) → inGap start size u ≡ false
 unfolding inGap
-in-or-out start size u f g =
+out-of-gap start size u n =
     cases (leb start u)
     (λ low. cases (ltb u (start + size))
-    (λ high. f (leb-true start u low) (ltb-true u (start + size) high) (and-both low high))
-    (λ high. let past = ltb-false u (start + size) high in g (λ p q. omega arith) (and-second-fails (leb start u) high)))
-    (λ low. let early = leb-false start u low in g (λ p q. omega arith) (and-first-fails (ltb u (start + size)) low))
-
-out-of-gap : (start size u : ℕ) → (start ≤ u → u < start + size → ⊥) → inGap start size u ≡ false
-out-of-gap start size u n = in-or-out start size u (λ low high i. absurd (n low high)) (λ out i. i)
+    (λ high. absurd (n (leb-true start u low) (ltb-true u (start + size) high)))
+    (λ high. and-second-fails (leb start u) high))
+    (λ low. and-first-fails (ltb u (start + size)) low)
 
 module _ (start size u first last first′ last′ : ℕ) (rest : List Run) (begins : start ≡ suc last) (long : size ≡ first′ - suc last) where
   pair-inside : first ≤ last → suc (suc last) ≤ first′ → first ≤ u → u ≤ last′

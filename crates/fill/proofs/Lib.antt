@@ -1,9 +1,8 @@
 pub mod Examples
-pub mod Runs
 pub mod Gaps
 pub mod Merged
 pub mod Ticks
 pub mod Filled
-pub mod Scans
-pub mod Codes
+pub mod Walks
 pub mod Filling
+pub mod Counting

@@ -10,10 +10,11 @@ use lib.ListN.{length}
 use borrow.Author.Tests.{leb-true, leb-false, le-leb, lt-leb}
 use borrow.Table.Steps.{cases}
 use Rattle.laws.proofs.Tests.{or-first}
-use Rattle.fill.specs.Runs.{Run, Gap, gap, closeShortest, closeWhile, merged, inside}
-use Rattle.fill.specs.Scan.{inGap, shortestGap}
-use Rattle.fill.proofs.Gaps.{Closed, closed-length, closed-apart, inside-closed, closes, one-stays}
-use Rattle.fill.proofs.Runs.{Apart}
+use Rattle.runs.specs.Runs.{Run, inside}
+use Rattle.runs.proofs.Runs.{Apart}
+use Rattle.fill.specs.Filling.{shortestGap}
+use Rattle.fill.specs.Gaps.{Gap, gap, closeShortest, closeWhile, merged}
+use Rattle.fill.proofs.Gaps.{inGap, Closed, closed-length, closed-apart, inside-closed, closes, one-stays}
 
 while-done : (n hops : ℕ) (rs : List Run) → length rs ≤ hops → closeWhile n hops rs ≡ rs
 unfolding closeWhile

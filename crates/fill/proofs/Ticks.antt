@@ -7,12 +7,16 @@ use mathlib.Core.List.{List}
 use mathlib.Core.Path.{_≡_, sym, subst, ap, _∙_}
 use native.Mathlib.Nat.{zero-add}
 use native.Mathlib.Omega.{arith}
-use lib.ListN.{length, getD}
+use lib.Dec.{ltb}
+use lib.ListN.{length, getD, List·getD-eq-default}
 use lib.Seq.{ext-getD}
+use borrow.Author.Tests.{ltb-true, ltb-false}
+use borrow.Table.Steps.{cases}
+use Rattle.runs.specs.Runs.{runs, inside}
+use Rattle.runs.proofs.Runs.{Apart, apart-few, runs-apart, inside-before, inside-after, none-before, none-after, inside-runs, length-inside, inside-at, runs-are}
 use Rattle.fill.specs.Fill.{fillTicks}
-use Rattle.fill.specs.Runs.{runs, merged, inside}
+use Rattle.fill.specs.Gaps.{merged}
 use Rattle.fill.proofs.Merged.{merged-adds, merged-apart, merged-done, merged-few}
-use Rattle.fill.proofs.Runs.{Apart, apart-few, runs-apart, inside-before, inside-after, none-before, none-after, inside-runs, length-inside, inside-at, runs-are}
 
 pub length-fill : (hops : ℕ) (held : List Bool) → length (fillTicks hops held) ≡ length held
 unfolding fillTicks
@@ -43,6 +47,20 @@ module _ (hops : ℕ) (held : List Bool) (long : length held ≡ 256) where
       → getD (fillTicks hops held) t false ≡ false
   fill-not-after end outside t h =
       fill-at t ∙ inside-after t (merged-apart hops 0 end apart (none-after end (λ u k. inside-runs u held ∙ outside u k) apart)) h
+
+  -- Ticks that are the same from tick s on stay as they are from there on.
+  pub fill-kept : (s : ℕ) → ((t : ℕ) → s ≤ t → t < 256 → getD held t false ≡ getD held s false) → (t : ℕ) → s ≤ t → t < 256
+      → getD (fillTicks hops held) t false ≡ getD held t false
+  fill-kept s same t after within =
+      cases (getD held s false)
+      (λ on. let here = same t after within ∙ on in fill-adds t here ∙ sym here)
+      (λ off. fill-not-after s (λ u k. none u k off) t after ∙ sym (none t after off))
+    where
+      none : (u : ℕ) → s ≤ u → getD held s false ≡ false → getD held u false ≡ false
+      none u k off =
+          cases (ltb u 256)
+          (λ low. same u k (ltb-true u 256 low) ∙ off)
+          (λ high. List·getD-eq-default held false (omega (arith, ltb-false u 256 high)))
 
   -- Ticks whose runs are the merged ones are the filled ticks.
   pub fill-is : (after : List Bool) → length after ≡ 256 → runs after ≡ merged hops (runs held) → after ≡ fillTicks hops held

@@ -6,7 +6,8 @@ use mathlib.Core.Path.{_≡_}
 use lib.ListN.{replicate}
 use Rattle.excitation.specs.UncertaintySet.{code, decode}
 use Rattle.fill.specs.Fill.{fillTicks, filled}
-use Rattle.fill.specs.Runs.{run, runs, merged}
+use Rattle.runs.specs.Runs.{run, runs}
+use Rattle.fill.specs.Gaps.{merged}
 
 -- 256 ticks, held at 2, 4, 9, and at 2, 4, 6.
 abbrev at249 : List Bool

@@ -1,21 +1,17 @@
 -- Filled sets (document 01, "Envelope").
-use Prim.Native.Nat.{ℕ, zero, suc}
+use Prim.Native.Nat.{ℕ}
 use mathlib.Core.Bool.{Bool}
 use mathlib.Core.List.{List, [], _∷_, map}
 use lib.ListN.{length}
 use Rattle.excitation.specs.Excitation.{l, h, hl, lh}
 use Rattle.excitation.specs.UncertaintySet.{UncertaintySet, member}
 use Rattle.excitation.specs.declared.Excitation.{Excitation}
-use Rattle.fill.specs.Runs.{Run, runs, merged, inside}
+use Rattle.runs.specs.Runs.{runs, ticksInside}
+use Rattle.fill.specs.Gaps.{merged}
 
 -- At which ticks an excitation is held by the set of that tick.
 unfoldable pub holding : Excitation → List UncertaintySet → List Bool
 holding e sets = map (member e) sets
-
--- Of n ticks from tick t on, which lie inside the runs.
-unfoldable pub ticksInside : List Run → ℕ → ℕ → List Bool
-ticksInside rs t zero = []
-ticksInside rs t (suc n) = inside t rs ∷ ticksInside rs (suc t) n
 
 -- The ticks that hold an excitation once the gaps are filled.
 unfoldable pub fillTicks : ℕ → List Bool → List Bool

@@ -1,6 +1,4 @@
-pub mod Runs
+pub mod Gaps
 pub mod Fill
-pub mod Codes
-pub mod Scan
 pub mod Filling
 pub mod Examples

@@ -1,173 +1,134 @@
-// Fills the sets of a gate to the hop limit.
-ghost use Prim.Native.Nat.{_+_, _*_, _≤_, _<_};
-ghost use mathlib.Core.Bool.{Bool, not, _&&_};
-ghost use mathlib.Core.List.{List, _∷_};
+// Fills the rows of a gate to the hop limit.
+ghost use Prim.Native.Nat.{_+_, _-_, _≤_, _<_};
 ghost use mathlib.Core.Path.{_≡_};
-ghost use lib.Dec.{eqb};
 ghost use lib.ListN.{length};
-ghost use Rattle.laws.specs.Below.{indicator};
+ghost use Rattle.laws.specs.Settled.{SettledAfter};
 ghost use Rattle.excitation.specs.declared.Excitation.{Excitation};
-ghost use Rattle.fill.specs.Scan.{scanned, gapOf, shortestGap};
-ghost use Rattle.fill.specs.Codes.{Codes, SettledFrom, Filled};
-ghost use Rattle.fill.specs.Filling.{runsOf, Added, GapFilled, OneFilled};
+ghost use Rattle.rows.specs.Rows.{HasRow, setIn};
+ghost use Rattle.runs.specs.Rows.{runsIn};
+ghost use Rattle.runs.specs.Runs.{runs};
+ghost use Rattle.fill.specs.Gaps.{gap, shorter};
+ghost use Rattle.fill.specs.Filling.{gapOf, shortestGap, heldIn, GapFilled, RowFilled, OneFilled, Filled};
 use excitation::Excitation;
 use excitation::H;
 use excitation::HL;
 use excitation::L;
 use excitation::LH;
-use excitation::Set;
+use parts::Part;
 
-// The code of a set with an excitation added.
-fn added(set: u8, e: Excitation) -> u8
-    requires { ⌜ set < 16 ⌝ }
-    ensures { λ r. ⌜ Added e set r ⌝ }
-{
-    let other = excitation::single(e);
-    set | other.code
-}
-
-// 1 where a run begins.
-fn begins(held: bool, before: bool) -> usize
-    ensures { λ r. ⌜ (r ≡ indicator (held && not before)) × (r ≤ 1) ⌝ }
-{
-    if before {
-        return 0;
-    }
-    held as usize
-}
-
-// How many runs an excitation has.
-fn count_runs(codes: &[u8], e: Excitation, last: usize) -> usize
-    requires { ⌜ Codes (now codes) × SettledFrom last (now codes) ⌝ }
-    ensures { λ r. ⌜ r ≡ length (runsOf e (now (codes .entry))) ⌝ }
-{
-    let mut runs: usize = 0;
-    let mut before = false;
-    let mut t: usize = 0;
-    while t <= last {
-        let set = Set { code: codes[t] };
-        let held = set.contains(e);
-        runs += begins(held, before);
-        before = held;
-        t += 1;
-    }
-    runs
-}
-
-// A pass over the ticks: the tick after the latest held one, and the shortest gap so far. While no tick was held, `next` is past
-// all of them.
-struct Scan {
-    next: usize,
+// A gap between two runs: its first tick and how many ticks it has.
+struct Between {
     start: usize,
     size: usize,
 }
 
-// One tick more.
-fn scan_tick(s: Scan, t: usize, held: bool) -> Scan
-    requires { ⌜ t < 256 ⌝ }
-    ensures { λ r. ⌜ ((later : List Bool) → scanned t (held ∷ later) (s .next) (gapOf s) ≡ scanned (t + 1) later (r .next) (gapOf r)) ⌝ }
+// The shorter of a gap so far and the gap from tick `end` to before tick `next`, the earlier on a tie.
+fn shorter(shortest: Between, end: usize, next: usize) -> Between
+    requires { ⌜ end ≤ next ⌝ }
+    ensures { λ r. ⌜ gapOf r ≡ shorter (gapOf shortest) (gap end (next - end)) ⌝ }
 {
-    if !held {
-        return s;
+    let size = next - end;
+    if size < shortest.size {
+        return Between { start: end, size };
     }
-    let next = s.next;
-    if t > next && t - next < s.size {
-        return Scan {
-            next: t + 1,
-            start: next,
-            size: t - next,
-        };
-    }
-    Scan {
-        next: t + 1,
-        start: s.start,
-        size: s.size,
-    }
+    shortest
 }
 
-// The shortest gap between the runs of an excitation, the earliest on a tie.
-fn shortest_gap(codes: &[u8], e: Excitation, last: usize) -> Scan
-    requires { ⌜ Codes (now codes) × SettledFrom last (now codes) ⌝ }
-    ensures { λ r. ⌜ gapOf r ≡ shortestGap (runsOf e (now (codes .entry))) ⌝ }
+// The shortest gap between the runs of a row, the earliest on a tie: the runs are walked from one to the next.
+fn shortest_gap(row: &[u64]) -> Between
+    requires { ⌜ length (now row) ≡ 4 ⌝ }
+    ensures { λ r. ⌜ gapOf r ≡ shortestGap (runsIn (now (row .entry))) ⌝ }
 {
-    let mut scan = Scan {
-        next: 256,
+    let mut shortest = Between {
         start: 0,
         size: 256,
     };
-    let mut t: usize = 0;
-    while t <= last {
-        let set = Set { code: codes[t] };
-        let held = set.contains(e);
-        scan = scan_tick(scan, t, held);
-        t += 1;
+    let first = runs::next_at(row, 0, true);
+    let mut end = runs::next_at(row, first, false);
+    let mut next = runs::next_at(row, end, true);
+    while next < 256 {
+        shortest = shorter(shortest, end, next);
+        end = runs::next_at(row, next, false);
+        next = runs::next_at(row, end, true);
     }
-    scan
+    shortest
 }
 
-// Fills the shortest gap between the runs of an excitation.
-fn fill_shortest(codes: &mut [u8], e: Excitation, last: usize)
-    requires { ⌜ Codes (now codes) × SettledFrom last (now codes) × (2 ≤ length (runsOf e (now codes))) ⌝ }
-    ensures { λ _. ⌜ GapFilled last e (now (codes .entry)) (now (codes .exit)) ⌝ }
+// Fills the shortest gap between the runs of a row.
+fn fill_shortest(row: &mut [u64])
+    requires { ⌜ (length (now row) ≡ 4) × (2 ≤ length (runsIn (now row))) ⌝ }
+    ensures { λ _. ⌜ GapFilled (now (row .entry)) (now (row .exit)) ⌝ }
 {
-    let shortest = shortest_gap(codes, e, last);
+    let shortest = shortest_gap(row);
     let start = shortest.start;
-    let end = start + shortest.size;
-    let mut t: usize = start;
-    while t < end {
-        codes[t] = added(codes[t], e);
-        t += 1;
+    runs::set_range(row, start, start + shortest.size);
+}
+
+// Fills a row of so many runs: while they exceed the hop limit, the shortest gap.
+fn fill_row(row: &mut [u64], count: usize, hops: usize)
+    requires { ⌜ (length (now row) ≡ 4) × (count ≡ length (runsIn (now row))) × (1 ≤ hops) ⌝ }
+    ensures { λ _. ⌜ RowFilled hops (now (row .entry)) (now (row .exit)) ⌝ }
+{
+    let mut left = count;
+    while left > hops {
+        fill_shortest(row);
+        left -= 1;
     }
 }
 
-// Fills an excitation: while its runs exceed the hop limit, the shortest gap.
-fn fill_excitation(codes: &mut [u8], e: Excitation, hops: usize, last: usize)
-    requires { ⌜ Codes (now codes) × SettledFrom last (now codes) × (1 ≤ hops) ⌝ }
-    ensures { λ _. ⌜ OneFilled hops last e (now (codes .entry)) (now (codes .exit)) ⌝ }
+// Fills an excitation of a net whose sets are the same after tick `last`.
+fn fill_excitation(work: &mut [u8], net: usize, e: Excitation, hops: usize, last: usize)
+    requires { ⌜ HasRow (now work) net × (1 ≤ hops) × SettledAfter last (setIn (now work) net) ⌝ }
+    ensures { λ _. ⌜ OneFilled hops last e net (now (work .entry)) (now (work .exit)) ⌝ }
 {
-    let mut runs = count_runs(codes, e, last);
-    while runs > hops {
-        fill_shortest(codes, e, last);
-        runs -= 1;
+    let mut row = rows::read_row(work, net, e);
+    let count = runs::count_runs(&row, last);
+    if count <= hops {
+        return;
     }
+    fill_row(&mut row, count, hops);
+    rows::write_row(work, net, e, &row);
 }
 
-// 1 where two sets differ.
-fn differ(first: u8, second: u8) -> u8
-    ensures { λ r. ⌜ (r ≡ indicator (not (eqb first second))) × (r ≤ 1) ⌝ }
+// How many ticks of a net there are, up to the one after tick `last`, at which a run of some excitation begins. None of them has more runs.
+fn count_starts(work: &[u8], net: usize, last: usize) -> usize
+    requires { ⌜ HasRow (now work) net × SettledAfter last (setIn (now work) net) ⌝ }
+    ensures { λ r. ⌜ ((e : Excitation) → length (runs (heldIn e (now (work .entry)) net)) ≤ r) ⌝ }
 {
-    (first != second) as u8
-}
-
-// How often the sets change. Each run of an excitation but the first takes two changes.
-fn count_changes(codes: &[u8], last: usize) -> u8
-    requires { ⌜ Codes (now codes) × SettledFrom last (now codes) ⌝ }
-    ensures { λ r. ⌜ ((e : Excitation) → 2 * length (runsOf e (now (codes .entry))) ≤ r + 2) ⌝ }
-{
-    let mut changes: u8 = 0;
-    let mut t: usize = 0;
-    while t < last {
-        changes += differ(codes[t], codes[t + 1]);
-        t += 1;
+    let parts = runs::words_until(last);
+    let mut count: usize = 0;
+    let mut before = Part {
+        l: 0,
+        h: 0,
+        hl: 0,
+        lh: 0,
+    };
+    let mut part: usize = 0;
+    while part < parts {
+        let here = rows::read_part(work, net, part);
+        let levels = runs::starts(here.l, before.l) | runs::starts(here.h, before.h);
+        let edges = runs::starts(here.hl, before.hl) | runs::starts(here.lh, before.lh);
+        count += u64::count_ones(levels | edges) as usize;
+        before = here;
+        part += 1;
     }
-    changes
+    count
 }
 
-// Fills the sets of a gate, which are the same from tick `last` on, to the hop limit. They change at most `last` times, so that
+// Fills the sets of a net, which are the same after tick `last`, to the hop limit. A run takes two ticks with the gap after it, so that
 // nothing has to be counted where `last` is small.
-pub fn fill(codes: &mut [u8], hops: usize, last: usize)
-    requires { ⌜ Codes (now codes) × (1 ≤ hops) × SettledFrom last (now codes) ⌝ }
-    ensures { λ _. ⌜ Filled hops (now (codes .entry)) (now (codes .exit)) ⌝ }
+pub fn fill(work: &mut [u8], net: usize, hops: usize, last: usize)
+    requires { ⌜ HasRow (now work) net × (1 ≤ hops) × (last < 256) × SettledAfter last (setIn (now work) net) ⌝ }
+    ensures { λ _. ⌜ Filled hops last net (now (work .entry)) (now (work .exit)) ⌝ }
 {
-    if last / 2 < hops {
+    if (last + 1) / 2 < hops {
         return;
     }
-    let changes = count_changes(codes, last) as usize;
-    if changes / 2 < hops {
+    if count_starts(work, net, last) <= hops {
         return;
     }
-    fill_excitation(codes, L, hops, last);
-    fill_excitation(codes, H, hops, last);
-    fill_excitation(codes, HL, hops, last);
-    fill_excitation(codes, LH, hops, last);
+    fill_excitation(work, net, L, hops, last);
+    fill_excitation(work, net, H, hops, last);
+    fill_excitation(work, net, HL, hops, last);
+    fill_excitation(work, net, LH, hops, last);
 }

@@ -1,11 +1,13 @@
-pub mod Unpacking
-pub mod Written
 pub mod Rows
-pub mod Pins
-pub mod Joined
 pub mod Gates
+pub mod Pins
 pub mod Waveforms
 pub mod Within
 pub mod Settles
 pub mod Singles
+pub mod Changes
+pub mod Held
+pub mod Raw
+pub mod Written
+pub mod Inputs
 pub mod Made

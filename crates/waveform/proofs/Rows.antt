@@ -11,6 +11,7 @@ module _ {net : ℕ} {gate : Gate} {work : List ℕ} (ready : Ready net gate wor
   -- A buffer with room for the row of a gate has room for those of its pins.
   pub pin-rows : HasPinRows work gate
   pin-rows = record {
+    some = ready .checked .pins-low;
     few = ready .checked .pins-high;
     row = λ p h. let below = ready .checked .pin-below p h in record { whole = omega (arith, ready .room .whole); numbered = omega (arith, ready .room .numbered) };
   }

@@ -12,6 +12,7 @@ use lib.Dec.{eqb, ltb}
 use lib.ListN.{length, getD, List·getD-eq-default}
 use borrow.Author.Tests.{ltb-true, ltb-false, lt-ltb, le-ltb, ne-eqb}
 use borrow.Table.Steps.{cases}
+use Rattle.laws.specs.Settled.{SettledAfter}
 use Rattle.laws.specs.Turn.{listBelow}
 use Rattle.laws.proofs.Below.{max-at}
 use Rattle.laws.proofs.Lists.{getD-any}
@@ -31,12 +32,12 @@ use Rattle.waveform.proofs.Gates.{gate-same, from-held}
 use Rattle.waveform.proofs.Waveforms.{net-input, net-gate}
 
 -- A waveform that switches only from tick `first` to tick `last`, and stays the same after it.
-pub record Settles (first last : ℕ) (w : Waveform UncertaintySet) : Type 0 where
+pub record SwitchesWithin (first last : ℕ) (w : Waveform UncertaintySet) : Type 0 where
   pub long : length (w .ticks) ≡ 256
   pub held : Held (w .before)
   pub early : (t : ℕ) → t < first → Held (getD (w .ticks) t empty)
   pub late : (t : ℕ) → last < t → Held (getD (w .ticks) t empty)
-  pub same : (t : ℕ) → last < t → t < 256 → getD (w .ticks) t empty ≡ getD (w .ticks) 255 empty
+  pub settled : SettledAfter last (λ t. getD (w .ticks) t empty)
 
 empty-held : Held empty
 unfolding member
@@ -46,7 +47,7 @@ past : (xs : List UncertaintySet) → length xs ≡ 256 → (t : ℕ) → 256 �
 past xs long t h = List·getD-eq-default xs empty (omega arith)
 
 -- An input switches at its tick alone.
-pub input-settles : (hops switching : ℕ) (s : UncertaintySet) → switching < 256 → Settles 0 switching (inputWaveform (envelope hops) switching s)
+pub input-settles : (hops switching : ℕ) (s : UncertaintySet) → switching < 256 → SwitchesWithin 0 switching (inputWaveform (envelope hops) switching s)
 unfolding inputWaveform
 input-settles hops switching s in-time = record {
   long = list-long 256 set-at;
@@ -55,7 +56,7 @@ input-settles hops switching s in-time = record {
   late = λ t h. cases (ltb t 256)
       (λ b. subst Held (sym (after-at t h (ltb-true t 256 b))) (after-held s))
       (λ b. subst Held (sym (past (listBelow 256 set-at) (list-long 256 set-at) t (ltb-false t 256 b))) empty-held);
-  same = λ t h q. after-at t h q ∙ sym (after-at 255 (omega arith) (omega arith));
+  settled = record { same = λ t h q. after-at t h q ∙ sym (after-at 255 (omega arith) (omega arith)) };
 }
   where
     set-at : ℕ → UncertaintySet
@@ -67,7 +68,7 @@ input-settles hops switching s in-time = record {
 -- A gate, from its pins.
 module _ (hops net : ℕ) (gate : Gate) (passed : GateRecord net gate) (below : List (Waveform UncertaintySet)) (latest : ℕ)
     (first arrives : ℕ → ℕ)
-    (settles : (p : ℕ) → p < gate .used → Settles (first p) (arrives p) (pinWaveform (envelope hops) gate below p))
+    (settles : (p : ℕ) → p < gate .used → SwitchesWithin (first p) (arrives p) (pinWaveform (envelope hops) gate below p))
     (soon : (p : ℕ) → p < gate .used → arrives p ≤ latest) (in-time : latest + gate .delay ≤ 255) where
   abbrev D : ℕ
   D = gate .delay
@@ -100,7 +101,7 @@ module _ (hops net : ℕ) (gate : Gate) (passed : GateRecord net gate) (below : 
       let w = settles p r in
       let s = soon p r in
       rw (le-ltb t D (omega arith))
-      (getD-any (pinWaveform (envelope hops) gate below p .ticks) (t - D) _ empty (omega (arith, w .long)) ∙ w .same (t - D) (omega arith) (omega arith))
+      (getD-any (pinWaveform (envelope hops) gate below p .ticks) (t - D) _ empty (omega (arith, w .long)) ∙ w .settled .same (t - D) (omega arith) (omega arith))
 
   late-held : (t : ℕ) → latest + D < t → t < 256 → Held (raw t)
   unfolding raw gateAt
@@ -123,7 +124,7 @@ module _ (hops net : ℕ) (gate : Gate) (passed : GateRecord net gate) (below : 
   raws-same s t h k q =
       raws-at t q ∙ late-same t (omega arith) q ∙ sym (late-same s h (omega arith)) ∙ sym (raws-at s (omega arith))
 
-  gate-settles : Settles D (latest + D) (gateWaveform (envelope hops) gate below)
+  gate-settles : SwitchesWithin D (latest + D) (gateWaveform (envelope hops) gate below)
   unfolding gateWaveform raws raw
   gate-settles = record {
     long = filled-long hops raws ∙ raws-long;
@@ -136,9 +137,11 @@ module _ (hops net : ℕ) (gate : Gate) (passed : GateRecord net gate) (below : 
       no-hl = filled-not-after hops raws raws-long hl (latest + D + 1) (λ t h. raws-late t (omega arith) .no-hl) t (omega arith);
       no-lh = filled-not-after hops raws raws-long lh (latest + D + 1) (λ t h. raws-late t (omega arith) .no-lh) t (omega arith);
     };
-    same = λ t h q.
-        filled-settled hops raws raws-long (latest + D + 1) (λ u k r. raws-same (latest + D + 1) u (omega arith) k r) t (omega arith) q
-        ∙ sym (filled-settled hops raws raws-long (latest + D + 1) (λ u k r. raws-same (latest + D + 1) u (omega arith) k r) 255 (omega arith) (omega arith));
+    settled = record {
+      same = λ t h q.
+          filled-settled hops raws raws-long (latest + D + 1) (λ u k r. raws-same (latest + D + 1) u (omega arith) k r) t (omega arith) q
+          ∙ sym (filled-settled hops raws raws-long (latest + D + 1) (λ u k r. raws-same (latest + D + 1) u (omega arith) k r) 255 (omega arith) (omega arith));
+    };
   }
 
 -- The first tick at which a net may switch.
@@ -162,7 +165,7 @@ module _ (file : File) (nets inputs : ℕ) (accepted : AcceptedFile file nets in
   gate-is net e = net-gate (envelope hops) file sets _ net e
 
   -- An input arrives at the tick at which it switches.
-  input-net : (net : ℕ) → net < nets → isInput file net ≡ true → Settles (firstTick file net) (arrival file net) (waveformOf net)
+  input-net : (net : ℕ) → net < nets → isInput file net ≡ true → SwitchesWithin (firstTick file net) (arrival file net) (waveformOf net)
   unfolding arrivalFrom
   input-net net h e = rw (e, input-is net e) (input-settles hops (switchingTick file net) (getD sets net (single l)) (in-time (accepted .arrives net h)))
     where
@@ -176,7 +179,7 @@ module _ (file : File) (nets inputs : ℕ) (accepted : AcceptedFile file nets in
       omega (arith, m, arrival-at file net (pinOf gate p) b)
 
   gate-net : (net : ℕ) → net < nets → isInput file net ≡ false → GateRecord net (gateOf file net)
-      → ((m : ℕ) → m < net → Settles (firstTick file m) (arrival file m) (waveformOf m)) → Settles (firstTick file net) (arrival file net) (waveformOf net)
+      → ((m : ℕ) → m < net → SwitchesWithin (firstTick file m) (arrival file m) (waveformOf m)) → SwitchesWithin (firstTick file net) (arrival file net) (waveformOf net)
   unfolding arrivalFrom pinWaveform
   gate-net net h e passed settles =
       let gate = gateOf file net in
@@ -184,27 +187,27 @@ module _ (file : File) (nets inputs : ℕ) (accepted : AcceptedFile file nets in
       (gate-settles hops net gate passed (waveforms (envelope hops) file sets net) (latestPin gate (arrivals file net))
       (λ p. firstTick file (pinOf gate p)) (λ p. arrival file (pinOf gate p))
       (λ p q. let b = passed .pin-below p q in
-      subst (Settles (firstTick file (pinOf gate p)) (arrival file (pinOf gate p))) (sym (waveform-at net (pinOf gate p) _ b)) (settles (pinOf gate p) b))
+      subst (SwitchesWithin (firstTick file (pinOf gate p)) (arrival file (pinOf gate p))) (sym (waveform-at net (pinOf gate p) _ b)) (settles (pinOf gate p) b))
       (λ p q. pin-arrival net gate p (passed .pin-below p q) q)
       (in-time (accepted .arrives net h)))
     where
       in-time : arrival file net ≤ 255 → latestPin (gateOf file net) (arrivals file net) + gateOf file net .delay ≤ 255
       in-time a = rw e at a
 
-  net-from : (net : ℕ) → net < nets → ((m : ℕ) → m < net → Settles (firstTick file m) (arrival file m) (waveformOf m))
-      → Settles (firstTick file net) (arrival file net) (waveformOf net)
+  net-from : (net : ℕ) → net < nets → ((m : ℕ) → m < net → SwitchesWithin (firstTick file m) (arrival file m) (waveformOf m))
+      → SwitchesWithin (firstTick file net) (arrival file net) (waveformOf net)
   net-from net h below =
       cases (ltb net inputs)
       (λ b. input-net net h (accepted .input net (ltb-true net inputs b) .input))
       (λ b. let gates = ltb-false net inputs b in gate-net net h (accepted .no-input net gates h) (accepted .gate net gates h) below)
 
-  settles-below : (n : ℕ) → n ≤ nets → (m : ℕ) → m < n → Settles (firstTick file m) (arrival file m) (waveformOf m)
+  settles-below : (n : ℕ) → n ≤ nets → (m : ℕ) → m < n → SwitchesWithin (firstTick file m) (arrival file m) (waveformOf m)
   settles-below zero h m l = absurd (not-suc-le-zero l)
   settles-below (suc n) h m l =
       let below = settles-below n (omega arith) in
-      ⊎-elim (λ (e : m ≡ n). subst (λ k. Settles (firstTick file k) (arrival file k) (waveformOf k)) (sym e) (net-from n (omega arith) below))
+      ⊎-elim (λ (e : m ≡ n). subst (λ k. SwitchesWithin (firstTick file k) (arrival file k) (waveformOf k)) (sym e) (net-from n (omega arith) below))
       (λ q. below m q) (eq-or-lt-of-le (le-of-suc-le-suc l))
 
   -- Every net of an accepted block switches only from its first tick to its arrival.
-  pub net-settles : (net : ℕ) → net < nets → Settles (firstTick file net) (arrival file net) (waveformOf net)
+  pub net-settles : (net : ℕ) → net < nets → SwitchesWithin (firstTick file net) (arrival file net) (waveformOf net)
   net-settles net h = settles-below nets (omega arith) net h

@@ -1,52 +1,52 @@
--- What the code makes of a gate's pins, sample by sample.
-use Prim.Native.Nat.{ℕ, _+_, _-_, _<_, min}
-use mathlib.Core.Bool.{Bool, cond}
+-- What the code makes of a gate's pins.
+use Prim.Native.Nat.{ℕ, _+_, _-_, _*_, _≤_, _<_}
+use mathlib.Core.Bool.{cond}
 use mathlib.Core.List.{List, foldl}
 use mathlib.Core.Path.{_≡_}
-use lib.ListN.{length, getD}
+use lib.Dec.{ltb}
+use Rattle.laws.specs.Settled.{SettledAfter}
 use Rattle.laws.specs.Turn.{listBelow}
-use Rattle.excitation.specs.Excitation.{levelsOf}
-use Rattle.excitation.specs.UncertaintySet.{UncertaintySet, code, decode, joinSets, invertSet}
-use Rattle.excitation.specs.declared.Join.{Join}
+use Rattle.excitation.specs.Excitation.{TwoLevel}
+use Rattle.excitation.specs.UncertaintySet.{UncertaintySet, joinSets}
 use Rattle.block.specs.View.{pinOf}
 use Rattle.block.specs.declared.Gate.{Gate}
-use Rattle.waveform.specs.Rows.{sampleIn}
+use Rattle.parts.specs.Parts.{setAt}
+use Rattle.parts.specs.declared.Part.{Part}
+use Rattle.rows.specs.Rows.{HasRow, setIn}
+use Rattle.waveform.specs.Rows.{beforeIn, HasPinRows}
 use Rattle.waveform.specs.Waveform.{envelope, gateFrom}
 
--- The set of pin p of a gate at sample k.
-unfoldable pub pinSample : Gate → List ℕ → ℕ → ℕ → UncertaintySet
-pinSample gate work k p = decode (sampleIn work (pinOf gate p) k)
+-- The sets of the first n pins, at least one, joined left to right.
+unfoldable pub joinedBelow : TwoLevel → ℕ → (ℕ → UncertaintySet) → UncertaintySet
+joinedBelow f n onPin = foldl (joinSets f) (onPin 0) (listBelow (n - 1) (λ p. onPin (p + 1)))
 
--- The join of the first `pins` pins of a gate at sample k, left to right.
-unfoldable pub joinedSample : Gate → List ℕ → Join → ℕ → ℕ → UncertaintySet
-joinedSample gate work by pins k =
-    foldl (joinSets (levelsOf by)) (pinSample gate work k 0) (listBelow (pins - 1) (λ p. pinSample gate work k (p + 1)))
+-- What a gate makes of its pins' sets before tick 0, and at tick t. The hop limit says nothing here.
+unfoldable pub madeBefore : Gate → List ℕ → UncertaintySet
+madeBefore gate work = gateFrom (envelope 1) gate (λ p. beforeIn work (pinOf gate p))
 
--- The first n samples hold sets given by a rule.
-pub record Sampled (rule : ℕ → UncertaintySet) (n : ℕ) (samples : List ℕ) : Type 0 where
-  pub long : length samples ≡ 257
-  pub low : (k : ℕ) → k < n → getD samples k 0 < 16
-  pub at : (k : ℕ) → k < n → decode (getD samples k 0) ≡ rule k
+unfoldable pub madeAt : Gate → List ℕ → ℕ → UncertaintySet
+madeAt gate work t = gateFrom (envelope 1) gate (λ p. setIn work (pinOf gate p) t)
 
--- The first n samples joined with those of a net.
-pub record RowJoined (work : List ℕ) (net : ℕ) (by : Join) (n : ℕ) (given after : List ℕ) : Type 0 where
-  pub long : length after ≡ length given
-  pub at : (k : ℕ) → k < n → getD after k 0 ≡ code (joinSets (levelsOf by) (decode (getD given k 0)) (decode (sampleIn work net k)))
+-- 64 sets as a rule has them from tick `from` on.
+pub record PartIs (rule : ℕ → UncertaintySet) (from : ℕ) (part : Part) : Type 0 where
+  pub at : (k : ℕ) → k < 64 → setAt part k ≡ rule (from + k)
 
--- The first n samples hold the join of a gate's pins.
-abbrev pub PinsJoined : Gate → List ℕ → Join → ℕ → List ℕ → Type 0
-PinsJoined gate work by n samples = Sampled (joinedSample gate work by (gate .used)) n samples
+-- A gate's raw set at tick t: what it makes of its pins d ticks earlier, and before tick d what it has before tick 0.
+abbrev pub rawAt : Gate → List ℕ → ℕ → UncertaintySet
+rawAt gate work t = cond (ltb t (gate .delay)) (madeBefore gate work) (madeAt gate work (t - gate .delay))
 
--- The first n samples turned over, or not.
-pub record Inverted (inverts : Bool) (n : ℕ) (given after : List ℕ) : Type 0 where
-  pub long : length after ≡ length given
-  pub at : (k : ℕ) → k < n → getD after k 0 ≡ cond inverts (code (invertSet (decode (getD given k 0)))) (getD given k 0)
+-- A row whose parts from `parts` on hold the last of 64 sets, later by d ticks, and whose other parts are as given.
+unfoldable pub heldFrom : Part → ℕ → ℕ → (ℕ → UncertaintySet) → ℕ → UncertaintySet
+heldFrom earlier d parts given t =
+    cond (ltb t (64 * parts)) (given t) (cond (ltb t (64 * parts + d)) (setAt earlier (t + 64 - (64 * parts + d))) (setAt earlier 63))
 
--- The first n samples hold what a gate makes of its pins, whatever the hop limit.
-abbrev pub GateSampled : Gate → List ℕ → ℕ → List ℕ → Type 0
-GateSampled gate work n samples = (hops : ℕ) → Sampled (λ k. gateFrom (envelope hops) gate (pinSample gate work k)) n samples
-
--- The codes d ticks after the samples, which are the same from tick `last` + 1 on.
-pub record Delayed (d last : ℕ) (samples codes : List ℕ) : Type 0 where
-  pub long : length codes ≡ 256
-  pub at : (t : ℕ) → t < 256 → getD codes t 0 ≡ getD samples (min (t + 1 - d) (last + 2)) 0
+-- Room for the row of a gate, a delay that a word can be shifted by, and pins that are the same from the last tick of the first `parts`
+-- parts of their rows on.
+pub record RowReady (net : ℕ) (gate : Gate) (parts : ℕ) (work : List ℕ) : Type 0 where
+  pub pins : HasPinRows work gate
+  pub room : HasRow work net
+  pub delay-low : 1 ≤ gate .delay
+  pub delay-high : gate .delay < 64
+  pub some : 1 ≤ parts
+  pub few : parts ≤ 4
+  pub settled : SettledAfter (64 * parts - 2) (madeAt gate work)

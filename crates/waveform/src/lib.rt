@@ -1,9 +1,8 @@
 // Waveforms of uncertainty sets in the lent work buffer, 160 bytes a net.
 mod gate;
 mod input;
-mod join;
+mod joining;
 mod row;
-mod stretch;
 
 pub use gate::gate_waveform;
 pub use input::input_waveform;

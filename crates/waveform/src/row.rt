@@ -1,20 +1,26 @@
-// The row of a net in the work buffer: byte i of the first 128 holds the code of the set at tick i and, 16 times, that at tick
-// i + 128; byte 128 holds the code of the set before tick 0, byte 129 the arrival, byte 130 the tick after which the sets are the
-// same.
+// What stands beside a net's sets in the work buffer: byte 128 of its 160 has its set before tick 0, byte 129 its arrival, byte 130 the
+// tick after which its sets are the same.
 ghost use mathlib.Core.Path.{_≡_};
-ghost use Prim.Native.Nat.{_+_, _*_, _≤_, _<_};
-ghost use lib.ListN.{length, getD};
-ghost use Rattle.laws.specs.Rewritten.{Rewritten};
-ghost use Rattle.fill.specs.Codes.{Codes};
-ghost use Rattle.waveform.specs.Rows.{HasRow, arrivalIn, lastIn, Unpacked, RowWritten};
+ghost use Prim.Native.Nat.{_*_, _<_};
+ghost use Rattle.rows.specs.Rows.{HasRow};
+ghost use Rattle.waveform.specs.Rows.{rowByte, arrivalIn, lastIn, EndsWritten};
 use block::Net;
 
-// Where the row of a net starts.
-pub fn start(net: Net) -> usize
+// Where the bytes of a net start.
+fn start(net: Net) -> usize
     requires { ⌜ net .0 < 1024 ⌝ }
     ensures { λ r. ⌜ r ≡ 160 * net .0 ⌝ }
 {
     160 * net.0
+}
+
+// The code of a net's set before tick 0.
+pub fn set_before(work: &[u8], net: Net) -> u8
+    requires { ⌜ HasRow (now work) (net .0) ⌝ }
+    ensures { λ r. ⌜ r ≡ rowByte (now (work .entry)) (net .0) 128 ⌝ }
+{
+    let at = start(net);
+    work[at + 128]
 }
 
 // The arrival of a net.
@@ -35,49 +41,12 @@ pub fn last(work: &[u8], net: Net) -> usize
     numbers::usize_from_u8(work[at + 130])
 }
 
-// The samples of a net: before tick 0, then at ticks 0 to 255.
-pub fn unpack(work: &[u8], net: Net, samples: &mut [u8])
-    requires { ⌜ HasRow (now work) (net .0) × (length (now samples) ≡ 257) ⌝ }
-    ensures { λ _. ⌜ Unpacked (now (work .entry)) (net .0) (now (samples .exit)) ⌝ }
+// Writes what stands beside a net's sets.
+pub fn write_ends(work: &mut [u8], net: Net, before: u8, arrival: u8, last: u8)
+    requires { ⌜ HasRow (now work) (net .0) ⌝ }
+    ensures { λ _. ⌜ EndsWritten (net .0) before arrival last (now (work .entry)) (now (work .exit)) ⌝ }
 {
     let at = start(net);
-    samples[0] = work[at + 128] % 16;
-    let mut i: usize = 0;
-    while i < 128 {
-        let both = work[at + i];
-        samples[i + 1] = both % 16;
-        samples[i + 129] = both / 16;
-        i += 1;
-    }
-}
-
-// Two codes in a byte.
-fn both(low: u8, high: u8) -> u8
-    requires { ⌜ (low < 16) × (high < 16) ⌝ }
-    ensures { λ r. ⌜ r ≡ low + 16 * high ⌝ }
-{
-    low + 16 * high
-}
-
-// The codes of ticks 0 to 255, two to a byte.
-fn pack(work: &mut [u8], at: usize, codes: &[u8])
-    requires { ⌜ (at + 160 ≤ length (now work)) × Codes (now codes) ⌝ }
-    ensures { λ _. ⌜ Rewritten (λ k. getD (now (codes .entry)) k 0 + 16 * getD (now (codes .entry)) (k + 128) 0) at 128 (now (work .entry)) (now (work .exit)) ⌝ }
-{
-    let mut i: usize = 0;
-    while i < 128 {
-        work[at + i] = both(codes[i], codes[i + 128]);
-        i += 1;
-    }
-}
-
-// Writes the row of a net.
-pub fn write(work: &mut [u8], net: Net, codes: &[u8], before: u8, arrival: u8, last: u8)
-    requires { ⌜ HasRow (now work) (net .0) × Codes (now codes) ⌝ }
-    ensures { λ _. ⌜ RowWritten (net .0) before arrival last (now (codes .entry)) (now (work .entry)) (now (work .exit)) ⌝ }
-{
-    let at = start(net);
-    pack(work, at, codes);
     work[at + 128] = before;
     work[at + 129] = arrival;
     work[at + 130] = last;

@@ -1,9 +1,9 @@
 -- `evaluation::draw` meets its contract. The loop's invariant: the nets passed are evaluated, and the settling tick is theirs.
 -- Assumes nothing.
-use Prim.Native.Nat.{ℕ, _-_, _≤_, _<_}
+use Prim.Native.Nat.{_-_, _≤_, _<_}
 use mathlib.Core.Path.{_≡_, refl, ap, sym, _∙_}
 use native.Mathlib.Omega.{arith}
-use lib.ListN.{length, length-replicate}
+use lib.ListN.{length}
 use borrow.Author.Needs.{needs}
 use Rattle.laws.specs.Below.{maxBelow}
 use Rattle.laws.proofs.Below.{max-next}
@@ -18,13 +18,13 @@ use Rattle.evaluation.proofs.draw.Statement.{statement}
 use Rattle.evaluation.proofs.draw.Tie as tie
 
 abbrev Inv-loop : tie.InvT-loop
-Inv-loop file setting codes sheet₀ work₀ joins sets₀ settling₀ net₀ sheet work sets settling net =
-    (setting .inputs ≤ net) × (net ≤ setting .nets) × (length work ≡ length work₀) × (length sets ≡ 256)
+Inv-loop file setting codes sheet₀ work₀ joins settling₀ net₀ sheet work settling net =
+    (setting .inputs ≤ net) × (net ≤ setting .nets) × (length work ≡ length work₀)
     × Evaluating file (setting .hops) (setsIn (setting .inputs) codes) net work sheet
     × (settling ≡ maxBelow net (lastFlow file)) × (settling < 511)
 
 abbrev μ-loop : tie.MeasureT-loop
-μ-loop file setting codes sheet₀ work₀ joins sets₀ settling₀ net₀ sheet work sets settling net = setting .nets - net
+μ-loop file setting codes sheet₀ work₀ joins settling₀ net₀ sheet work settling net = setting .nets - net
 
 joins-requires : tie.Need-joins-requires Inv-loop μ-loop
 joins-requires c κs = search needs
@@ -46,76 +46,95 @@ loop-holds c =
     let s = c .before .before .before .before .before .before .before .before .before .before .before .before .before in
     let g = s .pre .0 in
     let file = s .args .file .now in
-    let setting = s .args .setting in (
+    let setting = s .args .setting in
+    let made = c .before .before .make-inputs .ensures in
+    let cleared = c .before .before .before .before .before .before .clear .ensures in (
       omega arith,
       g .accepted .inputs-first,
       refl,
-      length-replicate {A = ℕ} 256 0,
-      inputs-evaluated file (setting .nets) (setting .inputs) (g .accepted) (setting .hops) (s .args .codes .now) (c .before .before .make-inputs .ensures) (c .before .before .before .before .before .before .clear .ensures),
+      inputs-evaluated file (setting .nets) (setting .inputs) (g .accepted) (setting .hops) (s .args .codes .now) made cleared,
       sym (inputs-flow file (setting .nets) (setting .inputs) (g .accepted)),
       omega arith,
     )
 
 gate-requires : tie.Need-gate-requires Inv-loop μ-loop
-gate-requires c κs =
-    let s = c .before .before .before .before .before .before .before .before .before .before .before .before .before .before .before .before in
-    has-record _ _ _ _ (s .pre .0 .accepted) (c .if1 .taken)
+gate-requires c κs = has-record _ _ _ _ (c .before .before .before .before .before .before .before .before .before .before .before .before .before .before .before .before .pre .0 .accepted) (c .if1 .taken)
 
 slice-aggregate-gate-waveform : tie.Need-slice-aggregate-gate-waveform Inv-loop μ-loop
 slice-aggregate-gate-waveform c = sym (ap length (c .before .before .before .before .before .before .before .before .before .before .before .before .before .joins .ensures) ∙ table-long)
 
-slice-aggregate-gate-waveform-2 : tie.Need-slice-aggregate-gate-waveform-2 Inv-loop μ-loop
-slice-aggregate-gate-waveform-2 c = sym (c .before .before .before .before .before .before .loop .inv .3)
-
 gate-waveform-requires : tie.Need-gate-waveform-requires Inv-loop μ-loop
 gate-waveform-requires c κs =
-    let s = c .before .before .before .before .before .before .before .before .before .before .before .before .before .before .before .before .before .before .before .before in
+    let s = c .before .before .before .before .before .before .before .before .before .before .before .before .before .before .before .before .before .before .before in
     let g = s .pre .0 in
-    let l = c .before .before .before .before .before .before .loop in
-    let begun = c .before .before .before .before .before .before .before .before .before .make-inputs .ensures .long in
+    let l = c .before .before .before .before .before .loop in
+    let begun = c .before .before .before .before .before .before .before .before .make-inputs .ensures .long in
     let file = s .args .file .now in
     let setting = s .args .setting in
     let sets = setsIn (setting .inputs) (s .args .codes .now) in
-    let here : l .net < setting .nets = c .before .before .before .before .if1 .taken in
+    let here : l .net < setting .nets = c .before .before .before .if1 .taken in
     let rows : HasRows (l .work) (setting .nets) = record { whole = omega (arith, g .rows .whole, begun, l .inv .2); numbered = g .rows .numbered } in
-    let read = c .before .before .before .gate .ensures in
-    (next-ready file (setting .nets) (setting .inputs) (g .accepted) (setting .hops) sets (l .inv .4) (l .inv .1) (l .inv .0) here read rows, l .inv .3, g .some-hops, c .before .before .before .before .before .before .before .before .before .before .before .before .before .before .before .joins .ensures)
-
-slice-aggregate-draw-gate : tie.Need-slice-aggregate-draw-gate Inv-loop μ-loop
-slice-aggregate-draw-gate c = sym (c .before .before .before .before .gate-waveform .ensures .0 .coded .long)
+    let read = c .before .before .gate .ensures in
+    (next-ready file (setting .nets) (setting .inputs) (g .accepted) (setting .hops) sets (l .inv .3) (l .inv .1) (l .inv .0) here read rows, g .some-hops, c .before .before .before .before .before .before .before .before .before .before .before .before .before .before .joins .ensures)
 
 draw-gate-requires : tie.Need-draw-gate-requires Inv-loop μ-loop
 draw-gate-requires c κs =
-    let s = c .before .before .before .before .before .before .before .before .before .before .before .before .before .before .before .before .before .before .before .before .before .before .before .before .before .before in
+    let s = c .before .before .before .before .before .before .before .before .before .before .before .before .before .before .before .before .before .before .before .before .before .before .before .before in
     let g = s .pre .0 in
-    let l = c .before .before .before .before .before .before .before .before .before .before .before .before .loop in
-    let begun = c .before .before .before .before .before .before .before .before .before .before .before .before .before .before .before .make-inputs .ensures .long in
+    let l = c .before .before .before .before .before .before .before .before .before .before .loop in
+    let begun = c .before .before .before .before .before .before .before .before .before .before .before .before .before .make-inputs .ensures .long in
     let file = s .args .file .now in
     let setting = s .args .setting in
     let sets = setsIn (setting .inputs) (s .args .codes .now) in
-    let here : l .net < setting .nets = c .before .before .before .before .before .before .before .before .before .before .if1 .taken in
+    let here : l .net < setting .nets = c .before .before .before .before .before .before .before .before .if1 .taken in
     let rows : HasRows (l .work) (setting .nets) = record { whole = omega (arith, g .rows .whole, begun, l .inv .2); numbered = g .rows .numbered } in
-    let read = c .before .before .before .before .before .before .before .before .before .gate .ensures in
-    let made = c .before .before .before .before .before .gate-waveform .ensures in
-    next-drawable file (setting .nets) (setting .inputs) (g .accepted) (setting .hops) sets (l .inv .4) (l .inv .1) (l .inv .0) here read (made .0) _ (made .1)
+    let read = c .before .before .before .before .before .before .before .gate .ensures in
+    let made = c .before .before .before .before .gate-waveform .ensures in
+    next-drawable file (setting .nets) (setting .inputs) (g .accepted) (setting .hops) sets (l .inv .3) (l .inv .1) (l .inv .0) here read (made .0) rows _ (made .1)
 
 arrival-requires : tie.Need-arrival-requires Inv-loop μ-loop
 arrival-requires c κs =
-    let s = c .before .before .before .before .before .before .before .before .before .before .before .before .before .before .before .before .before .before .before .before .before .before .before .before .before .before .before .before .before .before in
+    let s = c .before .before .before .before .before .before .before .before .before .before .before .before .before .before .before .before .before .before .before .before .before .before .before .before .before .before .before .before in
     let g = s .pre .0 in
-    let l = c .before .before .before .before .before .before .before .before .before .before .before .before .before .before .before .before .loop in
-    let begun = c .before .before .before .before .before .before .before .before .before .before .before .before .before .before .before .before .before .before .before .make-inputs .ensures .long in
+    let l = c .before .before .before .before .before .before .before .before .before .before .before .before .before .before .loop in
+    let begun = c .before .before .before .before .before .before .before .before .before .before .before .before .before .before .before .before .before .make-inputs .ensures .long in
     let file = s .args .file .now in
     let setting = s .args .setting in
     let sets = setsIn (setting .inputs) (s .args .codes .now) in
-    let here : l .net < setting .nets = c .before .before .before .before .before .before .before .before .before .before .before .before .before .before .if1 .taken in
+    let here : l .net < setting .nets = c .before .before .before .before .before .before .before .before .before .before .before .before .if1 .taken in
     let rows : HasRows (l .work) (setting .nets) = record { whole = omega (arith, g .rows .whole, begun, l .inv .2); numbered = g .rows .numbered } in
-    let read = c .before .before .before .before .before .before .before .before .before .before .before .before .before .gate .ensures in
-    let made = c .before .before .before .before .before .before .before .before .before .gate-waveform .ensures in
+    let read = c .before .before .before .before .before .before .before .before .before .before .before .gate .ensures in
+    let made = c .before .before .before .before .before .before .before .before .gate-waveform .ensures in
     has-row (l .net) (record { whole = omega (arith, rows .whole, made .0 .others .long); numbered = rows .numbered }) here
 
 last-pulse-end-requires : tie.Need-last-pulse-end-requires Inv-loop μ-loop
 last-pulse-end-requires c κs =
+    let s = c .before .before .before .before .before .before .before .before .before .before .before .before .before .before .before .before .before .before .before .before .before .before .before .before .before .before .before .before .before in
+    let g = s .pre .0 in
+    let l = c .before .before .before .before .before .before .before .before .before .before .before .before .before .before .before .loop in
+    let begun = c .before .before .before .before .before .before .before .before .before .before .before .before .before .before .before .before .before .before .make-inputs .ensures .long in
+    let file = s .args .file .now in
+    let setting = s .args .setting in
+    let sets = setsIn (setting .inputs) (s .args .codes .now) in
+    let here : l .net < setting .nets = c .before .before .before .before .before .before .before .before .before .before .before .before .before .if1 .taken in
+    let rows : HasRows (l .work) (setting .nets) = record { whole = omega (arith, g .rows .whole, begun, l .inv .2); numbered = g .rows .numbered } in
+    let read = c .before .before .before .before .before .before .before .before .before .before .before .before .gate .ensures in
+    let made = c .before .before .before .before .before .before .before .before .before .gate-waveform .ensures in
+    let ranges = next-checked file (setting .nets) (setting .inputs) (g .accepted) (setting .hops) sets (l .inv .3) (l .inv .1) (l .inv .0) here read .ranges in
+    let arrives = c .arrival .ensures in
+    (omega (arith, made .0 .arrives, arrives), omega (arith, arrives), omega (arith, ranges .rise-high), omega (arith, ranges .fall-high))
+
+max-usize-requires : tie.Need-max-usize-requires Inv-loop μ-loop
+max-usize-requires c κs = search needs
+
+add-net : tie.Need-add-net Inv-loop μ-loop
+add-net c = omega (arith, c .before .before .before .before .before .before .before .before .before .before .before .before .before .before .before .before .before .before .before .before .before .before .before .before .before .before .before .before .before .before .before .pre .0 .accepted .few-nets, c .before .before .before .before .before .before .before .before .before .before .before .before .before .before .before .if1 .taken)
+
+loop-less : tie.Need-loop-less Inv-loop μ-loop
+loop-less c = omega (arith, c .before .before .before .before .before .before .before .before .before .before .before .before .before .before .before .if1 .taken)
+
+loop-again : tie.Need-loop-again Inv-loop μ-loop
+loop-again c =
     let s = c .before .before .before .before .before .before .before .before .before .before .before .before .before .before .before .before .before .before .before .before .before .before .before .before .before .before .before .before .before .before .before in
     let g = s .pre .0 in
     let l = c .before .before .before .before .before .before .before .before .before .before .before .before .before .before .before .before .before .loop in
@@ -126,46 +145,19 @@ last-pulse-end-requires c κs =
     let here : l .net < setting .nets = c .before .before .before .before .before .before .before .before .before .before .before .before .before .before .before .if1 .taken in
     let rows : HasRows (l .work) (setting .nets) = record { whole = omega (arith, g .rows .whole, begun, l .inv .2); numbered = g .rows .numbered } in
     let read = c .before .before .before .before .before .before .before .before .before .before .before .before .before .before .gate .ensures in
-    let made = c .before .before .before .before .before .before .before .before .before .before .gate-waveform .ensures in
-    let ranges = next-checked file (setting .nets) (setting .inputs) (g .accepted) (setting .hops) sets (l .inv .4) (l .inv .1) (l .inv .0) here read .ranges in
-    let arrives = c .arrival .ensures in
-    (omega (arith, made .0 .arrives, arrives), omega (arith, arrives), omega (arith, ranges .rise-high), omega (arith, ranges .fall-high))
-
-max-usize-requires : tie.Need-max-usize-requires Inv-loop μ-loop
-max-usize-requires c κs = search needs
-
-add-net : tie.Need-add-net Inv-loop μ-loop
-add-net c = omega (arith, c .before .before .before .before .before .before .before .before .before .before .before .before .before .before .before .before .before .before .before .before .before .before .before .before .before .before .before .before .before .before .before .before .before .pre .0 .accepted .few-nets, c .before .before .before .before .before .before .before .before .before .before .before .before .before .before .before .before .before .if1 .taken)
-
-loop-less : tie.Need-loop-less Inv-loop μ-loop
-loop-less c = omega (arith, c .before .before .before .before .before .before .before .before .before .before .before .before .before .before .before .before .before .if1 .taken)
-
-loop-again : tie.Need-loop-again Inv-loop μ-loop
-loop-again c =
-    let s = c .before .before .before .before .before .before .before .before .before .before .before .before .before .before .before .before .before .before .before .before .before .before .before .before .before .before .before .before .before .before .before .before .before in
-    let g = s .pre .0 in
-    let l = c .before .before .before .before .before .before .before .before .before .before .before .before .before .before .before .before .before .before .before .loop in
-    let begun = c .before .before .before .before .before .before .before .before .before .before .before .before .before .before .before .before .before .before .before .before .before .before .make-inputs .ensures .long in
-    let file = s .args .file .now in
-    let setting = s .args .setting in
-    let sets = setsIn (setting .inputs) (s .args .codes .now) in
-    let here : l .net < setting .nets = c .before .before .before .before .before .before .before .before .before .before .before .before .before .before .before .before .before .if1 .taken in
-    let rows : HasRows (l .work) (setting .nets) = record { whole = omega (arith, g .rows .whole, begun, l .inv .2); numbered = g .rows .numbered } in
-    let read = c .before .before .before .before .before .before .before .before .before .before .before .before .before .before .before .before .gate .ensures in
-    let made = c .before .before .before .before .before .before .before .before .before .before .before .before .gate-waveform .ensures in
-    let arrives = c .before .before .arrival .ensures .0 ∙ next-arrives file (setting .nets) (setting .inputs) (g .accepted) (setting .hops) sets (l .inv .4) (l .inv .1) (l .inv .0) here read (made .0) in
+    let made = c .before .before .before .before .before .before .before .before .before .before .before .gate-waveform .ensures in
+    let arrives = c .before .before .arrival .ensures .0 ∙ next-arrives file (setting .nets) (setting .inputs) (g .accepted) (setting .hops) sets (l .inv .3) (l .inv .1) (l .inv .0) here read (made .0) in
     let flow = next-flow file (setting .nets) (setting .inputs) (g .accepted) (l .net) (l .inv .0) here read arrives (c .before .last-pulse-end .ensures) in (
       omega arith,
       omega arith,
       made .0 .others .long ∙ l .inv .2,
-      made .0 .coded .long,
-      next-evaluated file (setting .nets) (setting .inputs) (g .accepted) (setting .hops) sets (l .inv .4) (l .inv .1) (l .inv .0) here read (made .0) (c .before .before .before .before .before .before .draw-gate .ensures),
-      c .max-usize .ensures ∙ rw (l .inv .5, flow .0) (sym (max-next (l .net) (lastFlow file))),
+      next-evaluated file (setting .nets) (setting .inputs) (g .accepted) (setting .hops) sets (l .inv .3) (l .inv .1) (l .inv .0) here read (made .0) (c .before .before .before .before .before .before .draw-gate .ensures),
+      c .max-usize .ensures ∙ rw (l .inv .4, flow .0) (sym (max-next (l .net) (lastFlow file))),
       omega (arith, c .max-usize .ensures, flow .1),
     )
 
 same-length : tie.Need-same-length Inv-loop μ-loop
-same-length c = c .before .before .loop .inv .4 .long ∙ sym (c .before .before .before .before .before .before .before .before .before .before .before .before .before .before .before .before .pre .0 .sheet-long)
+same-length c = c .before .before .loop .inv .3 .long ∙ sym (c .before .before .before .before .before .before .before .before .before .before .before .before .before .before .before .before .pre .0 .sheet-long)
 
 same-length-2 : tie.Need-same-length-2 Inv-loop μ-loop
 same-length-2 c = c .before .before .loop .inv .2 ∙ c .before .before .before .before .before .make-inputs .ensures .long
@@ -178,12 +170,12 @@ returns c =
     let file = s .args .file .now in
     let setting = s .args .setting in
     let e : l .net ≡ setting .nets = omega (arith, c .if1 .left, l .inv .1) in
-    let done : Evaluating file (setting .hops) (setsIn (setting .inputs) (s .args .codes .now)) (setting .nets) (l .work) (l .sheet) = rw e at (l .inv .4) in
+    let done : Evaluating file (setting .hops) (setsIn (setting .inputs) (s .args .codes .now)) (setting .nets) (l .work) (l .sheet) = rw e at (l .inv .3) in
     record {
       sheet = all-evaluated file (setting .nets) (setting .inputs) (g .accepted) (setting .hops) _ done;
       most = λ t h. omega (arith, done .most t h, g .accepted .few-nets);
-      settled = l .inv .5 ∙ ap (λ n. maxBelow n (lastFlow file)) (e ∙ sym (g .accepted .net-count)) ∙ settling-is file;
-      soon = l .inv .6;
+      settled = l .inv .4 ∙ ap (λ n. maxBelow n (lastFlow file)) (e ∙ sym (g .accepted .net-count)) ∙ settling-is file;
+      soon = l .inv .5;
     }
 
 pub draw-spec : {M : Type 1} → statement M
@@ -198,9 +190,7 @@ draw-spec =
     loop-holds
     gate-requires
     slice-aggregate-gate-waveform
-    slice-aggregate-gate-waveform-2
     gate-waveform-requires
-    slice-aggregate-draw-gate
     draw-gate-requires
     arrival-requires
     last-pulse-end-requires

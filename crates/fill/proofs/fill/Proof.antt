@@ -2,29 +2,26 @@
 -- Assumes nothing.
 use native.Mathlib.Omega.{arith}
 use borrow.Author.Needs.{needs}
-use Rattle.fill.proofs.Codes.{settled-few}
-use Rattle.fill.proofs.Filling.{all-filled, none-filled}
+use Rattle.fill.proofs.Filling.{all-filled, few-filled, early-few}
 use Rattle.fill.proofs.fill.Statement.{statement}
 use Rattle.fill.proofs.fill.Tie as tie
 
+add-if1 : tie.Need-add-if1
+add-if1 c = search needs
+
 returns : tie.Need-returns
-returns c =
-    let s = c .before .before in
-    none-filled _ _ (s .pre .0) (λ e. omega (arith, settled-few _ _ (s .pre .0) (s .pre .2) e))
+returns c = let pre = c .before .before .pre in few-filled _ _ _ _ (pre .3) (early-few _ _ _ _ (pre .2) (omega arith) (pre .3))
 
-count-changes-requires : tie.Need-count-changes-requires
-count-changes-requires c κs = search needs
-
-cast-changes : tie.Need-cast-changes
-cast-changes c = search needs
+count-starts-requires : tie.Need-count-starts-requires
+count-starts-requires c κs = search needs
 
 same-length : tie.Need-same-length
 same-length c = search needs
 
 returns-2 : tie.Need-returns-2
 returns-2 c =
-    let s = c .before .before .before .before .before in
-    none-filled _ _ (s .pre .0) (λ e. omega (arith, c .before .count-changes .ensures e))
+    let few = c .before in
+    few-filled _ _ _ _ (few .before .before .before .before .pre .3) (λ e. omega (arith, few .count-starts .ensures e, c .if2 .taken))
 
 fill-excitation-requires : tie.Need-fill-excitation-requires
 fill-excitation-requires c κs = search needs
@@ -47,16 +44,16 @@ returns-3 c =
     let of-hl = of-lh .before .before .before .before in
     let of-h = of-hl .before .before .before .before in
     let of-l = of-h .before .before .before .before in
-    all-filled _ _ _ _ _ _ _ (of-l .fill-excitation .ensures) (of-h .fill-excitation2 .ensures) (of-hl .fill-excitation3 .ensures)
+    all-filled (of-l .fill-excitation .ensures) (of-h .fill-excitation2 .ensures) (of-hl .fill-excitation3 .ensures)
     (of-lh .fill-excitation4 .ensures)
 
 pub fill-spec : {M : Type 1} → statement M
 fill-spec =
     tie.close
     (tie.spec
+    add-if1
     returns
-    count-changes-requires
-    cast-changes
+    count-starts-requires
     same-length
     returns-2
     fill-excitation-requires

@@ -1,57 +1,56 @@
--- `fill::shortest_gap` meets its contract. The loop's invariant: the pass from tick t on comes to what the whole pass does.
+-- `fill::shortest_gap` meets its contract. The loop's invariant: of the shortest gap so far and the gaps between the runs that are left
+-- the shortest is that of the row.
 -- Assumes nothing.
-use Prim.Native.Nat.{_+_, _-_, _≤_}
-use mathlib.Core.Path.{_≡_, refl}
+use Prim.Native.Nat.{_-_}
 use native.Mathlib.Omega.{arith}
-use lib.Seq.{slice}
 use borrow.Author.Needs.{needs}
-use Rattle.fill.specs.Filling.{ticksOf}
-use Rattle.fill.specs.Runs.{gap}
-use Rattle.fill.specs.Scan.{scanned, gapOf}
-use Rattle.fill.proofs.Codes.{scan-next, scan-end}
+use Rattle.fill.specs.Filling.{gapOf}
+use Rattle.fill.proofs.Walks.{Walked, walk-first, walk-on, walk-more, walk-done}
 use Rattle.fill.proofs.shortest_gap.Statement.{statement}
 use Rattle.fill.proofs.shortest_gap.Tie as tie
 
 abbrev Inv-loop : tie.InvT-loop
-Inv-loop codes e last scan₀ t₀ scan t =
-    (t ≤ last + 1)
-    × (scanned t (ticksOf e (slice t (last + 1) codes)) (scan .next) (gapOf scan) ≡ scanned 0 (ticksOf e (slice 0 (last + 1) codes)) 256 (gap 0 256))
+Inv-loop row shortest₀ first end₀ next₀ shortest end next = Walked row (gapOf shortest) end next
 
 abbrev μ-loop : tie.MeasureT-loop
-μ-loop codes e last scan₀ t₀ scan t = last + 1 - t
+μ-loop row shortest₀ first end₀ next₀ shortest end next = 256 - next
+
+next-at-requires : tie.Need-next-at-requires Inv-loop μ-loop
+next-at-requires c κs = search needs
+
+next-at-requires-2 : tie.Need-next-at-requires-2 Inv-loop μ-loop
+next-at-requires-2 c κs = search needs
+
+next-at-requires-3 : tie.Need-next-at-requires-3 Inv-loop μ-loop
+next-at-requires-3 c κs = search needs
 
 loop-holds : tie.Need-loop-holds Inv-loop μ-loop
-loop-holds c = (omega arith, refl)
+loop-holds c = walk-first _ _ _ _ (c .before .before .next-at .ensures) (c .before .next-at2 .ensures) (c .next-at3 .ensures)
 
-shared-slice-read-t10 : tie.Need-shared-slice-read-t10 Inv-loop μ-loop
-shared-slice-read-t10 c = let pre = c .before .before .before .before .pre in omega (arith, pre .0 .long, pre .1 .in-time)
+shorter-requires : tie.Need-shorter-requires Inv-loop μ-loop
+shorter-requires c κs = search needs
 
-contains-requires : tie.Need-contains-requires Inv-loop μ-loop
-contains-requires c κs = search needs
+next-at-requires-4 : tie.Need-next-at-requires-4 Inv-loop μ-loop
+next-at-requires-4 c κs = search needs
 
-scan-tick-requires : tie.Need-scan-tick-requires Inv-loop μ-loop
-scan-tick-requires c κs = let pre = c .before .before .before .before .before .pre in omega (arith, pre .1 .in-time)
-
-add-t : tie.Need-add-t Inv-loop μ-loop
-add-t c = let pre = c .before .before .before .before .before .before .pre in omega (arith, pre .1 .in-time)
+next-at-requires-5 : tie.Need-next-at-requires-5 Inv-loop μ-loop
+next-at-requires-5 c κs = search needs
 
 loop-less : tie.Need-loop-less Inv-loop μ-loop
-loop-less c = omega arith
+loop-less c =
+    let at = c .before .before .before in
+    let early = at .loop-test .taken in
+    omega (arith, walk-on _ _ _ _ (at .before .loop .inv) early _ _ (c .before .next-at4 .ensures) (c .next-at5 .ensures))
 
 loop-again : tie.Need-loop-again Inv-loop μ-loop
 loop-again c =
-    let at = c .before .before .before .before in
-    let s = at .before .before in
-    let early = c .before .before .before .loop-test .taken in
-    let held = c .before .contains .ensures in
-    let step = c .scan-tick .ensures in
-    (omega arith, scan-next _ _ (s .pre .0) (s .pre .1) (s .args .e) _ _ _ _ _ _ _ early held step (at .loop .inv .1))
+    let at = c .before .before .before in
+    let early = at .loop-test .taken in
+    let one-more = walk-more _ _ _ _ (at .before .loop .inv) early _ _ (c .before .next-at4 .ensures) (c .next-at5 .ensures) in
+    one-more _ (c .before .before .shorter .ensures)
 
 returns : tie.Need-returns Inv-loop μ-loop
-returns c =
-    let at = c .before in
-    let s = at .before .before in
-    scan-end _ _ (s .pre .0) (s .pre .1) (s .args .e) _ _ _ (omega arith) (at .loop .inv .1)
+returns c = walk-done _ _ _ _ (c .before .loop .inv) (omega arith)
 
 pub shortest-gap-spec : {M : Type 1} → statement M
 shortest-gap-spec =
@@ -59,11 +58,13 @@ shortest-gap-spec =
     (tie.spec
     Inv-loop
     μ-loop
+    next-at-requires
+    next-at-requires-2
+    next-at-requires-3
     loop-holds
-    shared-slice-read-t10
-    contains-requires
-    scan-tick-requires
-    add-t
+    shorter-requires
+    next-at-requires-4
+    next-at-requires-5
     loop-less
     loop-again
     returns)

@@ -1,7 +1,6 @@
 -- `current::gate::draw_row` meets its contract.
 -- Assumes nothing.
-use mathlib.Core.Logic.{inl, inr}
-use mathlib.Core.Path.{refl, ap}
+use mathlib.Core.Path.{ap}
 use native.Mathlib.Omega.{arith}
 use lib.ListN.{length}
 use borrow.Author.Needs.{needs}
@@ -24,7 +23,7 @@ cast-peak-hl c = search needs
 
 draw-edges-requires : tie.Need-draw-edges-requires
 draw-edges-requires c κs =
-    let start = c .before .before .before .before .before .before .before .before in
+    let start = c .before .before .before .before .before .before .before .before .before in
     let given = start .pre .0 in (
       ap length (start .pre .1),
       record {
@@ -33,8 +32,8 @@ draw-edges-requires c κs =
         falling-by = c .before .before .before .before .factor2 .ensures;
       },
       omega arith,
-      inl refl,
-      given .edges,
+      given .rises,
+      given .falls,
     )
 
 same-length : tie.Need-same-length
@@ -42,12 +41,12 @@ same-length c = search needs
 
 returns : tie.Need-returns
 returns c =
-    let start = c .before .before .before .before .before .before .before .before .before .before .before in
+    let start = c .before .before .before .before .before .before .before .before .before .before .before .before in
     row-drawn (start .pre .0) (start .pre .1) (c .before .before .draw-edges .ensures)
 
 draw-edges-requires-2 : tie.Need-draw-edges-requires-2
 draw-edges-requires-2 c κs =
-    let start = c .before .before .before .before .before .before .before .before in
+    let start = c .before .before .before .before .before .before .before .before .before in
     let given = start .pre .0 in (
       ap length (start .pre .1),
       record {
@@ -56,8 +55,8 @@ draw-edges-requires-2 c κs =
         falling-by = c .before .before .before .before .factor2 .ensures;
       },
       omega arith,
-      inr refl,
-      given .edges,
+      given .falls,
+      given .rises,
     )
 
 same-length-2 : tie.Need-same-length-2
@@ -65,7 +64,7 @@ same-length-2 c = search needs
 
 returns-2 : tie.Need-returns-2
 returns-2 c =
-    let start = c .before .before .before .before .before .before .before .before .before .before .before in
+    let start = c .before .before .before .before .before .before .before .before .before .before .before .before in
     row-drawn (start .pre .0) (start .pre .1) (edges-turned (c .before .before .draw-edges2 .ensures))
 
 pub draw-row-spec : {M : Type 1} → statement M
