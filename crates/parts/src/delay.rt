@@ -1,4 +1,4 @@
-// Sets moved by some ticks, held, and compared.
+// Sets moved by some ticks, held, chosen and compared.
 ghost use Prim.Native.Nat.{ℕ, _+_, _-_, _≤_, _<_};
 ghost use mathlib.Core.Bool.{false, cond};
 ghost use mathlib.Core.Path.{_≡_};
