@@ -53,6 +53,15 @@ module _ {P r f : ℕ} (range : InRange P r f) where
   pub pulse-top : pulse P r f r ≡ P
   pulse-top = pulse-up P r f r (le-refl r) ∙ level-top P r (range .rise-low)
 
+  -- The peak is also the first level of the fall.
+  pulse-from-top : (k : ℕ) → r ≤ k → k ≤ r + f → pulse P r f k ≡ levelAfter P f (r + f - k)
+  pulse-from-top k h l =
+      cases (leb k r)
+      (λ t. let q = leb-true k r t in
+      ap (pulse P r f) (let z : k ≡ r = omega arith in z) ∙ pulse-top ∙ sym (level-top P f (range .fall-low))
+      ∙ ap (levelAfter P f) (let z : f ≡ r + f - k = omega arith in z))
+      (λ t. pulse-down P r f k (leb-false k r t) l)
+
   pub pulse-ends : (k : ℕ) → r + f ≤ k → pulse P r f k ≡ 0
   pulse-ends k h =
       let low = range .fall-low in
@@ -128,9 +137,9 @@ module _ {P r f rising falling : ℕ} (ready : Factored P r f rising falling) (k
       e ∙ ap (λ factor. levelBy P factor k) (ready .rising-by) ∙ level-by P r k (range .peak-high) (range .rise-low) high (omega arith)
       ∙ sym (pulse-up P r f k (omega arith))
 
-  pub fall-level : {level : ℕ} → r < k → k ≤ r + f → level ≡ levelBy P falling (r + f - k) → level ≡ pulse P r f k
+  pub fall-level : {level : ℕ} → r ≤ k → k ≤ r + f → level ≡ levelBy P falling (r + f - k) → level ≡ pulse P r f k
   fall-level h l e =
       let range = ready .range in
       let high = range .fall-high in
       e ∙ ap (λ factor. levelBy P factor (r + f - k)) (ready .falling-by)
-      ∙ level-by P f (r + f - k) (range .peak-high) (range .fall-low) high (omega arith) ∙ sym (pulse-down P r f k h l)
+      ∙ level-by P f (r + f - k) (range .peak-high) (range .fall-low) high (omega arith) ∙ sym (pulse-from-top range k h l)

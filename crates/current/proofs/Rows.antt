@@ -4,17 +4,18 @@ use Prim.Native.Nat.{ℕ, _+_, _-_, _≤_, _<_, max}
 use mathlib.Core.List.{List}
 use mathlib.Core.Logic.{inl, inr}
 use mathlib.Core.Path.{_≡_, refl, sym, ap, _∙_}
-use native.Mathlib.Nat.{le-refl, max-zero}
+use native.Mathlib.Nat.{le-refl, le-antisymm, max-zero}
 use native.Mathlib.Omega.{arith}
 use lib.Dec.{leb, ltb}
-use lib.ListN.{length, getD, set}
+use lib.ListN.{length, getD, set, replicate, length-replicate}
 use borrow.Author.Tests.{ltb-true, ltb-false, leb-true, leb-false, lt-ltb, le-ltb, le-leb, lt-leb}
 use borrow.Table.Steps.{cases}
 use Rattle.laws.specs.Rewritten.{Rewritten}
-use Rattle.laws.proofs.Rewritten.{rewritten-next, rewritten-to, rewritten-at}
+use Rattle.laws.proofs.Rewritten.{rewritten-next, rewritten-to, rewritten-at, rewritten-first, rewritten-append}
+use Rattle.laws.proofs.Lists.{replicate-at}
 use Rattle.current.specs.Levels.{InRange}
 use Rattle.current.specs.Pulse.{pulse, pulseAt}
-use Rattle.current.specs.Runs.{raisedTo, RiseDrawn, HeightDrawn, FallDrawn, runPulse, RunDrawn}
+use Rattle.current.specs.Runs.{raisedTo, RiseMade, FallMade, Shaped, Stamped, HeightDrawn, runPulse, RunDrawn}
 use Rattle.current.proofs.Pulses.{pulse-top, pulse-ends, pulse-most, pulse-rises, pulse-falls}
 
 -- One word more of a row that is raised.
@@ -25,6 +26,19 @@ unfolding raisedTo
 raised-next from level k at height v {row} {row′} w place inside l e next n =
     let old : getD row′ at 0 ≡ getD row (from + k) 0 = rw place (w .rest (from + k) (inr (le-refl (from + k)))) in
     rewritten-to _ from (k + 1) next row _ n (rewritten-next (raisedTo row from level) from k at v row row′ place inside (e ∙ rw (l, old) refl) w)
+
+-- Two stretches of a row that are raised, the second right after the first, are one.
+pub raised-append : (from : ℕ) (level : ℕ → ℕ) (n at m : ℕ) {row row′ after : List ℕ} → Rewritten (raisedTo row from level) from n row row′
+    → at ≡ from + n → Rewritten (raisedTo row′ at (λ k. level (n + k))) at m row′ after
+    → (next : ℕ) → n + m ≡ next → Rewritten (raisedTo row from level) from next row after
+unfolding raisedTo
+raised-append from level n at m {row} {row′} {after} v place w next e =
+    rewritten-to _ from (n + m) next row _ e
+    (rewritten-append (raisedTo row from level) (raisedTo row′ at (λ k. level (n + k))) (raisedTo row from level) from n at m row row′ after place
+    (λ k l. refl)
+    (λ k l. let i : at + k ≡ from + (n + k) = omega arith in
+    ap (λ x. max x (level (n + k))) (v .rest (at + k) (inr (omega arith)) ∙ ap (λ j. getD row j 0) i))
+    v w)
 
 -- The word at a tick of a row that was raised.
 raised-at : (level : ℕ → ℕ) {from n : ℕ} {row after : List ℕ} → Rewritten (raisedTo row from level) from n row after → (t : ℕ) → from ≤ t → t < from + n
@@ -102,29 +116,73 @@ module _ {P r f first last : ℕ} (range : InRange P r f) (ordered : first ≤ l
       rw (run-fall P r f first last t ordered l) (rw at at (each (D + last) (omega arith) (omega arith))))
       t
 
-  module _ {row risen level fallen : List ℕ} (rise : RiseDrawn P r f first row risen)
-      (peak : HeightDrawn P (first + r) (last + r + 1) risen level) (fall : FallDrawn P r f last level fallen) where
-    -- The three parts of a run, drawn one after the other.
-    pub run-drawn : RunDrawn P r f first last row fallen
-    run-drawn =
-        let some = range .fall-low in
-        record {
-          long = fall .long ∙ peak .long ∙ rise .long;
-          at = run-parts P r f first last (λ t. getD fallen t 0 ≡ max (getD row t 0) (runPulse P r f first last t))
-              (λ t l. fall .rest t (inl (omega arith)) ∙ peak .rest t (inl (omega arith)) ∙ rise .rest t (inl (omega arith))
-              ∙ sym (max-zero _) ∙ ap (max (getD row t 0)) (sym (run-before P r f first last t l)))
-              (λ t l m. fall .rest t (inl (omega arith)) ∙ peak .rest t (inl (omega arith)) ∙ raised-at (pulse P r f) rise t l m
-              ∙ ap (max (getD row t 0)) (sym (run-rise P r f first last t l m)))
-              (λ t l m. fall .rest t (inl (omega arith)) ∙ raised-at (λ k. P) peak t l (omega arith) ∙ ap (λ x. max x P) (rise .rest t (inr l))
-              ∙ ap (max (getD row t 0)) (sym (run-peak P r f first last t l m)))
-              (λ t l. let old : getD level t 0 ≡ getD row t 0 = peak .rest t (inr (omega arith)) ∙ rise .rest t (inr (omega arith)) in
-              cases (ltb t (last + (r + f)))
-              (λ b. let h = ltb-true t (last + (r + f)) b in
-              let since : r + 1 + (t - (last + (r + 1))) ≡ t - last = omega arith in
-              raised-at (λ k. pulse P r f (r + 1 + k)) fall t (omega arith) (omega arith) ∙ ap (λ x. max x (pulse P r f (r + 1 + (t - (last + (r + 1)))))) old
-              ∙ ap (λ k. max (getD row t 0) (pulse P r f k)) since
-              ∙ ap (max (getD row t 0)) (sym (run-fall P r f first last t ordered l)))
-              (λ b. let h = ltb-false t (last + (r + f)) b in
-              fall .rest t (inr (omega arith)) ∙ old ∙ sym (max-zero _)
-              ∙ ap (max (getD row t 0)) (sym (run-fall P r f first last t ordered l ∙ pulse-ends range (t - last) (omega arith)))));
-        }
+-- The shape of a pulse, made from zeros.
+pub shape-made : {P r f : ℕ} {zeros risen shape : List ℕ} → InRange P r f → zeros ≡ replicate 256 0 → RiseMade P r f zeros risen → FallMade P r f risen shape
+    → Shaped P r f shape
+shape-made {P} {r} {f} {zeros} {risen} {shape} range empty rise fall = record {
+  long = fall .long ∙ rise .long ∙ ap length empty ∙ length-replicate {A = ℕ} 256 0;
+  at = λ k. cases (ltb k r)
+      (λ t. let h = ltb-true k r t in fall .rest k (inl h) ∙ rewritten-first (pulse P r f) r zeros risen rise k h)
+      (λ t. let h = ltb-false k r t in
+      cases (ltb k (r + f))
+      (λ u. rewritten-at fall k h (ltb-true k (r + f) u) ∙ ap (pulse P r f) (let z : r + (k - r) ≡ k = omega arith in z))
+      (λ u. let l = ltb-false k (r + f) u in
+      fall .rest k (inr l) ∙ rise .rest k (inr (omega arith)) ∙ ap (λ xs. getD xs k 0) empty ∙ replicate-at 256 k 0 ∙ sym (pulse-ends range k l)));
+}
+
+-- A row raised to the whole shape of a pulse is raised to the pulse at every tick.
+stamped-at : {P r f at n : ℕ} {shape row after : List ℕ} → InRange P r f → Shaped P r f shape → r + f ≤ n → Stamped shape at n row after
+    → (t : ℕ) → getD after t 0 ≡ max (getD row t 0) (pulseAt P r f 0 at t)
+stamped-at {P} {r} {f} {at} {n} {shape} {row} {after} range shaped whole w t =
+    cases (ltb t at)
+    (λ b. let h = ltb-true t at b in
+    w .rest t (inl h) ∙ sym (max-zero _) ∙ ap (max (getD row t 0)) (sym (before-start P r f 0 at t (omega arith))))
+    (λ b. let h = ltb-false t at b in
+    let now = at-start P r f 0 at t (t - at) (omega arith) in
+    cases (ltb t (at + n))
+    (λ u. raised-at (λ k. getD shape k 0) w t h (ltb-true t (at + n) u) ∙ ap (max (getD row t 0)) (shaped .at (t - at) ∙ sym now))
+    (λ u. let l = ltb-false t (at + n) u in
+    w .rest t (inr l) ∙ sym (max-zero _) ∙ ap (max (getD row t 0)) (sym (now ∙ pulse-ends range (t - at) (omega arith)))))
+
+module _ {P r f n : ℕ} {shape : List ℕ} (range : InRange P r f) (shaped : Shaped P r f shape) (whole : r + f ≤ n) where
+  -- A run of one tick: its pulse alone.
+  pub run-of-one : {first last : ℕ} {row after : List ℕ} → first ≡ last → Stamped shape first n row after → RunDrawn P r f first last row after
+  run-of-one {first} {last} {row} one w = record {
+    long = w .long;
+    at = λ t.
+        let covers = run-covers range (let z : first ≤ last = omega arith in z) 0 first (omega arith) (omega arith) t in
+        let within = run-within range (let z : first ≤ last = omega arith in z) 0 t (pulseAt P r f 0 first t)
+        (λ x low high. let e : x ≡ first = omega arith in rw e (le-refl _)) in
+        stamped-at range shaped whole w t ∙ ap (max (getD row t 0)) (le-antisymm covers within);
+  }
+
+  -- A run of more ticks: the first pulse, the last one, and the peak between their peaks.
+  pub run-drawn : {first last : ℕ} {row begun ended after : List ℕ} → first ≤ last → Stamped shape first n row begun → Stamped shape last n begun ended
+      → HeightDrawn P (first + r) (last + r + 1) ended after → RunDrawn P r f first last row after
+  run-drawn {first} {last} {row} {begun} {ended} {after} ordered v w peak = record {
+    long = peak .long ∙ w .long ∙ v .long;
+    at = run-parts P r f first last (λ t. getD after t 0 ≡ max (getD row t 0) (runPulse P r f first last t))
+        (λ t l. let none = run-before P r f first last t l in
+        let both = stamps t in
+        let low = covers first (omega arith) (omega arith) t in
+        let high = covers last (omega arith) (omega arith) t in
+        peak .rest t (inl (omega arith)) ∙ omega arith)
+        (λ t l m. let first-one = run-rise P r f first last t l m ∙ sym (at-start P r f 0 first t (t - first) (omega arith)) in
+        let both = stamps t in
+        let high = covers last (omega arith) (omega arith) t in
+        peak .rest t (inl m) ∙ omega arith)
+        (λ t l m. let top = run-peak P r f first last t l m in
+        let both = stamps t in
+        let low = covers first (omega arith) (omega arith) t in
+        let high = covers last (omega arith) (omega arith) t in
+        raised-at (λ k. P) peak t l (omega arith) ∙ omega arith)
+        (λ t l. let last-one = run-fall P r f first last t ordered l ∙ sym (at-start P r f 0 last t (t - last) (omega arith)) in
+        let both = stamps t in
+        let low = covers first (omega arith) (omega arith) t in
+        peak .rest t (inr (omega arith)) ∙ omega arith);
+  } where
+    covers : (x : ℕ) → first ≤ x → x ≤ last → (t : ℕ) → pulseAt P r f 0 x t ≤ runPulse P r f first last t
+    covers x low high = run-covers range ordered 0 x (omega arith) (omega arith)
+
+    stamps : (t : ℕ) → getD ended t 0 ≡ max (max (getD row t 0) (pulseAt P r f 0 first t)) (pulseAt P r f 0 last t)
+    stamps t = stamped-at range shaped whole w t ∙ ap (λ x. max x (pulseAt P r f 0 last t)) (stamped-at range shaped whole v t)

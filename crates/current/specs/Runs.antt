@@ -12,17 +12,28 @@ use Rattle.current.specs.Pulse.{pulse}
 unfoldable pub raisedTo : List ℕ → ℕ → (ℕ → ℕ) → ℕ → ℕ
 raisedTo row from level k = max (getD row (from + k) 0) (level k)
 
--- A row once the rise of a pulse that starts at tick `start` is drawn, up to before the peak.
-abbrev pub RiseDrawn : ℕ → ℕ → ℕ → ℕ → List ℕ → List ℕ → Type 0
-RiseDrawn P r f start row = Rewritten (raisedTo row start (pulse P r f)) start r row
+-- A shape once the rise of a pulse is made, up to before the peak, and once its fall is, from the peak on.
+abbrev pub RiseMade : ℕ → ℕ → ℕ → List ℕ → List ℕ → Type 0
+RiseMade P r f = Rewritten (pulse P r f) 0 r
+
+abbrev pub FallMade : ℕ → ℕ → ℕ → List ℕ → List ℕ → Type 0
+FallMade P r f = Rewritten (λ k. pulse P r f (r + k)) r f
+
+-- The shape of a pulse: its level after each number of ticks.
+pub record Shaped (P r f : ℕ) (shape : List ℕ) : Type 0 where
+  pub long : length shape ≡ 256
+  pub at : (k : ℕ) → getD shape k 0 ≡ pulse P r f k
+
+-- A row raised from tick `at` on to the first n levels of a shape, and to eight of them from level `from` on.
+abbrev pub Stamped : List ℕ → ℕ → ℕ → List ℕ → List ℕ → Type 0
+Stamped shape at n row = Rewritten (raisedTo row at (λ k. getD shape k 0)) at n row
+
+abbrev pub EightStamped : List ℕ → ℕ → ℕ → List ℕ → List ℕ → Type 0
+EightStamped shape from at row = Rewritten (raisedTo row at (λ k. getD shape (from + k) 0)) at 8 row
 
 -- A row once a height is drawn from tick `from` to before tick `to`.
 abbrev pub HeightDrawn : ℕ → ℕ → ℕ → List ℕ → List ℕ → Type 0
 HeightDrawn height from to row = Rewritten (raisedTo row from (λ k. height)) from (to - from) row
-
--- A row once the fall of a pulse that starts at tick `start` is drawn, from after the peak.
-abbrev pub FallDrawn : ℕ → ℕ → ℕ → ℕ → List ℕ → List ℕ → Type 0
-FallDrawn P r f start row = Rewritten (raisedTo row (start + (r + 1)) (λ k. pulse P r f (r + 1 + k))) (start + (r + 1)) (f - 1) row
 
 -- The greatest at tick t of the pulses that start at ticks `first` to `last`: the first one's rise, the peak, the last one's fall.
 unfoldable pub runPulse : ℕ → ℕ → ℕ → ℕ → ℕ → ℕ → ℕ

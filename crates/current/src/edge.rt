@@ -1,8 +1,9 @@
 // The pulses of a gate's edges. The ticks at which an edge is drawn are a row of bits, taken run by run.
 ghost use mathlib.Core.Path.{_≡_};
-ghost use mathlib.Core.Bool.{false};
+ghost use mathlib.Core.Bool.{true, false};
 ghost use Prim.Native.Nat.{_≤_};
 ghost use lib.ListN.{length};
+ghost use Rattle.runs.specs.Rows.{NextAt};
 ghost use Rattle.current.specs.Levels.{Factored};
 ghost use Rattle.current.specs.Edges.{TicksFrom, Without, EdgeDrawn, EdgesDrawn, NoTicks};
 use super::Word;
@@ -32,17 +33,31 @@ fn without(ticks: &[u64], others: &[u64]) -> [u64; 4]
     ]
 }
 
-// The pulses of an edge at the ticks of a row, run by run. None is before tick `delay`.
+// The pulses of an edge at the ticks of a row, run by run. The first of them is tick `first`.
+fn draw_runs(row: &mut [Word], pulse: Pulse, ticks: &[u64], delay: usize, first: usize)
+    requires { ⌜ (length (now row) ≡ 512) × Factored (pulse .peak) (pulse .rise) (pulse .fall) (pulse .rising) (pulse .falling) × TicksFrom delay (now ticks) × NextAt true (now ticks) delay first ⌝ }
+    ensures { λ _. ⌜ EdgeDrawn (pulse .peak) (pulse .rise) (pulse .fall) delay (now (ticks .entry)) (now (row .entry)) (now (row .exit)) ⌝ }
+{
+    let mut shape: [Word; 256] = [0; 256];
+    draw::make_shape(&mut shape, pulse);
+    let mut t = first;
+    while t < 256 {
+        let end = runs::next_at(ticks, t, false);
+        draw::draw_run(row, pulse, &shape, t - delay, end - 1 - delay);
+        t = runs::next_at(ticks, end, true);
+    }
+}
+
+// The pulses of an edge at the ticks of a row. None is before tick `delay`.
 fn draw_edge(row: &mut [Word], pulse: Pulse, ticks: &[u64], delay: usize)
     requires { ⌜ (length (now row) ≡ 512) × Factored (pulse .peak) (pulse .rise) (pulse .fall) (pulse .rising) (pulse .falling) × TicksFrom delay (now ticks) ⌝ }
     ensures { λ _. ⌜ EdgeDrawn (pulse .peak) (pulse .rise) (pulse .fall) delay (now (ticks .entry)) (now (row .entry)) (now (row .exit)) ⌝ }
 {
-    let mut t = runs::next_at(ticks, delay, true);
-    while t < 256 {
-        let end = runs::next_at(ticks, t, false);
-        draw::draw_run(row, pulse, t - delay, end - 1 - delay);
-        t = runs::next_at(ticks, end, true);
+    let first = runs::next_at(ticks, delay, true);
+    if first == 256 {
+        return;
     }
+    draw_runs(row, pulse, ticks, delay, first);
 }
 
 // The pulses of both edges, `ticks` being those of the edge with the greater peak. They have the same rise and fall, so that at a tick

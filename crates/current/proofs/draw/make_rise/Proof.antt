@@ -1,0 +1,72 @@
+-- `current::draw::make_rise` meets its contract.
+-- Assumes nothing.
+use Prim.Native.Nat.{_-_, _≤_}
+use mathlib.Core.Path.{_≡_}
+use native.Mathlib.Omega.{arith}
+use borrow.Author.Needs.{needs}
+use Rattle.laws.specs.Rewritten.{Rewritten}
+use Rattle.laws.proofs.Rewritten.{rewritten-none, rewritten-next}
+use Rattle.current.specs.Pulse.{pulse}
+use Rattle.current.proofs.Pulses.{rise-level}
+use Rattle.current.proofs.draw.make_rise.Statement.{statement}
+use Rattle.current.proofs.draw.make_rise.Tie as tie
+
+abbrev Inv-loop : tie.InvT-loop
+Inv-loop shape₀ p k₀ shape k = (k ≤ p .rise) × Rewritten (pulse (p .peak) (p .rise) (p .fall)) 0 k shape₀ shape
+
+abbrev μ-loop : tie.MeasureT-loop
+μ-loop shape₀ pulse k₀ shape k = pulse .rise - k
+
+loop-holds : tie.Need-loop-holds Inv-loop μ-loop
+loop-holds c = (omega arith, rewritten-none _ _ _)
+
+level-requires : tie.Need-level-requires Inv-loop μ-loop
+level-requires c κs = let range = c .before .before .before .before .pre .1 .range in (range .peak-high, omega (arith, range .rise-high))
+
+mul-shape : tie.Need-mul-shape Inv-loop μ-loop
+mul-shape c = search needs
+
+slice-write-shape : tie.Need-slice-write-shape Inv-loop μ-loop
+slice-write-shape c = omega (arith, c .before .before .before .loop .inv .1 .long, c .before .before .before .before .before .pre .1 .range .rise-high)
+
+add-k : tie.Need-add-k Inv-loop μ-loop
+add-k c = search needs
+
+loop-less : tie.Need-loop-less Inv-loop μ-loop
+loop-less c = search needs
+
+loop-again : tie.Need-loop-again Inv-loop μ-loop
+loop-again c =
+    let start = c .before .before .before .before .before in
+    let loop = c .before .before .before .loop in
+    let p = start .args .pulse in
+    let level = rise-level (start .pre .1) (loop .k) (omega arith) (c .level .ensures) in (
+      omega arith,
+      rewritten-next (pulse (p .peak) (p .rise) (p .fall)) 0 (loop .k) _ _ _ _ (omega arith)
+          (omega (arith, start .pre .0, start .pre .1 .range .rise-high)) level (loop .inv .1),
+    )
+
+same-length : tie.Need-same-length Inv-loop μ-loop
+same-length c = c .before .before .loop .inv .1 .long
+
+returns : tie.Need-returns Inv-loop μ-loop
+returns c =
+    let loop = c .before .before .loop in
+    let e : loop .k ≡ c .before .before .before .before .args .pulse .rise = omega arith in
+    rw e at (loop .inv .1)
+
+pub make-rise-spec : {M : Type 1} → statement M
+make-rise-spec =
+    tie.close
+    (tie.spec
+    Inv-loop
+    μ-loop
+    loop-holds
+    level-requires
+    mul-shape
+    slice-write-shape
+    add-k
+    loop-less
+    loop-again
+    same-length
+    returns)
