@@ -16,7 +16,10 @@ use check::repository::{declares, files, text};
 const SEARCH: [&str; 2] = ["bounds", "search"];
 
 /// The crates inside which the search may not look.
-const INSIDE: [&str; 6] = [
+const INSIDE: [&str; 9] = [
+    "parts",
+    "rows",
+    "runs",
     "fill",
     "waveform",
     "current",
