@@ -2,16 +2,15 @@
 -- Assumes nothing.
 use Prim.Native.Nat.{ℕ, zero, suc, _+_, _-_, _*_, _/_, _%_, _^_, _≤_, _<_}
 use mathlib.Core.Path.{_≡_, refl, ap, sym, _∙_}
-use mathlib.Core.Bool.{Bool, false, not, _&&_, _||_, xor}
+use mathlib.Core.Bool.{Bool, false, cond, not, _&&_, _||_, xor, or-false}
 use mathlib.Core.Logic.{⊎-elim}
 use native.Mathlib.Nat.{one-mul, div-one, div-eq-of-lt, mod-lt, pow-suc, pow-succ', div-div-eq-div-mul, eq-or-lt-of-le, lt-of-lt-of-le}
 use native.Mathlib.Numerals.{add-one}
 use native.Mathlib.Omega.{arith}
-use lib.Arith.{lt-one}
 use lib.Bits.{bitAnd, bitOr, bitXor, and-shr, and-mod, or-shr, or-mod, xor-shr, xor-mod}
 use lib.Dec.{eqb, ltb, lit<}
 use lib.Pow.{pow-pos, pow-mono, shr-shr, high, low, mod-pow-add, shl-shr, shl-exact, ones-lt, pow-lt}
-use borrow.Author.Tests.{eqb-true, eqb-false, eq-eqb, ne-eqb, ltb-true, ltb-false}
+use borrow.Author.Tests.{eq-eqb, ne-eqb, ltb-true, ltb-false}
 use borrow.Table.Steps.{cases}
 use Rattle.bits.specs.Bits.{bitAt}
 
@@ -103,6 +102,17 @@ pub bit-shl-low : (w a j k : ℕ) → k < w → k < j → bitAt (a * 2 ^ j % 2 ^
 bit-shl-low w a j k h l =
     bit-mod (a * 2 ^ j) w k h ∙ ap (λ n. bitAt n k) (omega arith) ∙ bit-low-part a j 0 k (pow-pos j) l ∙ bit-zero k
 
+-- A word d bits further on, with the last d bits of the word before it.
+pub bit-moved : (before word d k : ℕ) → before < 2 ^ 64 → 1 ≤ d → d < 64 → k < 64
+    → bitAt (bitOr (word * 2 ^ d % 2 ^ 64) (before / 2 ^ (64 - d))) k ≡ cond (ltb k d) (bitAt before (k + 64 - d)) (bitAt word (k - d))
+bit-moved before word d k fits low high h =
+    let place : 64 - d + k ≡ k + 64 - d = omega arith in
+    bit-or (word * 2 ^ d % 2 ^ 64) (before / 2 ^ (64 - d)) k
+    ∙ cases (ltb k d)
+    (λ t. let l = ltb-true k d t in rw (t, bit-shl-low 64 word d k h l, bit-shr before (64 - d) k, place) refl)
+    (λ t. let l = ltb-false k d t in
+    rw (t, bit-shl 64 word d k h l, bit-shr before (64 - d) k, bit-above 64 before (64 - d + k) fits (omega arith), or-false) refl)
+
 -- Words turned over: the w bits of !a.
 other-digit : (x : ℕ) → x < 2 → eqb ((1 - x) % 2) 1 ≡ not (eqb x 1)
 other-digit = of-digit (λ x. eqb ((1 - x) % 2) 1 ≡ not (eqb x 1)) refl refl
@@ -131,26 +141,6 @@ bit-ones k j =
     cases (ltb j k)
     (λ t. rw t (ap (λ n. bitAt n j) (omega arith) ∙ bit-not k 0 j (pow-pos k) (ltb-true j k t) ∙ ap not (bit-zero j)))
     (λ t. rw t (bit-above k (2 ^ k - 1) j (ones-lt k) (ltb-false j k t)))
-
--- Two words of w bits that have the same bits are the same.
-digit-is : (x y : ℕ) → x < 2 → y < 2 → eqb x 1 ≡ eqb y 1 → x ≡ y
-digit-is x y h k e =
-    cases (eqb x 1)
-    (λ t. let p = eqb-true x 1 t in let q = eqb-true y 1 (sym e ∙ t) in omega arith)
-    (λ t. let p = eqb-false x 1 t in let q = eqb-false y 1 (sym e ∙ t) in
-    ⊎-elim (λ (z : x ≡ 1). absurd (p z)) (λ u. ⊎-elim (λ (z : y ≡ 1). absurd (q z)) (λ v. omega arith) (eq-or-lt-of-le (omega arith))) (eq-or-lt-of-le (omega arith)))
-
-pub same-bits : (w a b : ℕ) → a < 2 ^ w → b < 2 ^ w → ((k : ℕ) → k < w → bitAt a k ≡ bitAt b k) → a ≡ b
-same-bits zero a b h l same = lt-one h ∙ sym (lt-one l)
-same-bits (suc w) a b h l same =
-    let first = digit-is (a % 2) (b % 2) (omega arith) (omega arith) (sym (bit-low a) ∙ same 0 (omega arith) ∙ bit-low b) in
-    let rest =
-    same-bits w (a / 2) (b / 2) (smaller a (2 ^ w) (pow-suc 2 w) h) (smaller b (2 ^ w) (pow-suc 2 w) l)
-    (λ k m. sym (bit-next a k) ∙ same (suc k) (omega arith) ∙ bit-next b k) in
-    omega arith
-  where
-    smaller : (a p : ℕ) → 2 ^ suc w ≡ p * 2 → a < 2 ^ suc w → a / 2 < p
-    smaller a p e h = omega arith
 
 -- The word whose one set bit is bit k.
 pub one-shifted : (k : ℕ) → k < 64 → 1 * 2 ^ k % 2 ^ 64 ≡ 2 ^ k

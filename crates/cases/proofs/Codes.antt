@@ -1,15 +1,15 @@
 -- Laws of the sets of a case by their codes: which are undecided, and the probe.
 -- Assumes nothing.
-use Prim.Native.Nat.{ℕ, zero, suc, _+_, _/_, _%_, _≤_, _<_}
+use Prim.Native.Nat.{ℕ, _+_, _/_, _%_, _≤_, _<_}
 use mathlib.Core.Bool.{Bool, true, false, not}
 use mathlib.Core.List.{List}
 use mathlib.Core.Path.{_≡_, refl, ap, sym, _∙_}
 use native.Mathlib.Omega.{arith}
-use lib.Dec.{eqb, ltb}
+use lib.Dec.{ltb}
 use lib.ListN.{length, getD, length-map}
-use Rattle.laws.specs.Below.{allBelow, indicator}
+use Rattle.laws.specs.Below.{allBelow}
 use Rattle.laws.specs.Rewritten.{Rewritten}
-use Rattle.laws.proofs.Below.{all-same, all-fails}
+use Rattle.laws.proofs.Below.{all-same, all-fails, indicator-of}
 use Rattle.laws.proofs.Rewritten.{rewritten-first}
 use Rattle.laws.proofs.Turn.{list-at, list-map}
 use Rattle.excitation.specs.Excitation.{l, byteOf, patternOf}
@@ -18,11 +18,6 @@ use Rattle.excitation.proofs.Bytes.{byte-low, pattern-read}
 use Rattle.excitation.proofs.Codes.{set-at, sets-long}
 use Rattle.cases.specs.Store.{patternByte}
 use Rattle.cases.specs.Case.{undecided, decided, firstAllowed, probe}
-
-indicator-of : (bit : ℕ) → bit < 2 → indicator (eqb bit 1) ≡ bit
-indicator-of zero h = refl
-indicator-of (suc zero) h = refl
-indicator-of (suc (suc n)) h = absurd (omega arith)
 
 -- How many members a coded set has: how many of its low four bits are 1.
 size-code : (n : ℕ) → size (decode n) ≡ n % 2 + n / 2 % 2 + n / 4 % 2 + n / 8 % 2

@@ -17,7 +17,7 @@ use borrow.Table.Steps.{cases}
 use Rattle.laws.specs.Below.{anyBelow, indicator}
 use Rattle.laws.specs.Rewritten.{Rewritten}
 use Rattle.laws.specs.Turn.{inTurn}
-use Rattle.laws.proofs.Below.{any-same, count-next, count-none, count-same, count-at-most}
+use Rattle.laws.proofs.Below.{any-same, indicator-of, count-next, count-none, count-same, count-at-most}
 use Rattle.laws.proofs.Rewritten.{rewritten-first}
 use Rattle.laws.proofs.Turn.{turn-at}
 use Rattle.bits.specs.Bits.{bitAt}
@@ -43,12 +43,7 @@ union-next n union word e = rw (add-one, e) refl
 -- The bit of one word, counted.
 bit-counted : (word i : ℕ) → word / 2 ^ i % 2 ≡ indicator (bitAt word i)
 unfolding bitAt
-bit-counted word i = digit (word / 2 ^ i % 2) (omega arith)
-  where
-    digit : (x : ℕ) → x < 2 → x ≡ indicator (eqb x 1)
-    digit zero h = refl
-    digit (suc zero) h = refl
-    digit (suc (suc x)) h = absurd (omega arith)
+bit-counted word i = sym (indicator-of (word / 2 ^ i % 2) (omega arith))
 
 -- The gates that an input reaches, counted net by net.
 

@@ -11,17 +11,13 @@ use lib.Dec.{eqb, ltb}
 use borrow.Author.Tests.{ltb-true, ltb-false, eqb-true, ne-eqb}
 use borrow.Table.Steps.{cases}
 use Rattle.laws.specs.Below.{allBelow, anyBelow, maxBelow, argmax, sumBelow, indicator, countBelow}
-use Rattle.laws.proofs.Tests.{and-left, and-right, and-both, and-second-fails, or-first, or-second}
+use Rattle.laws.proofs.Tests.{and-left, and-right, and-both, and-second-fails}
 
 -- One number more, as a loop counts.
 
 pub all-next : (n : ℕ) (p : ℕ → Bool) → allBelow n p ≡ true → p n ≡ true → allBelow (n + 1) p ≡ true
 unfolding allBelow
 all-next n p s t = rw add-one (and-both s t)
-
-pub any-next : (n : ℕ) (p : ℕ → Bool) → anyBelow n p ≡ false → p n ≡ false → anyBelow (n + 1) p ≡ false
-unfolding anyBelow
-any-next n p s t = rw (add-one, s, t) refl
 
 pub max-next : (n : ℕ) (f : ℕ → ℕ) → maxBelow (n + 1) f ≡ max (maxBelow n f) (f n)
 unfolding maxBelow
@@ -61,20 +57,18 @@ all-fails (suc n) p k h e =
     ⊎-elim (λ (q : k ≡ n). and-second-fails (allBelow n p) (rw q at e)) (λ l. rw (all-fails n p k l e) refl)
     (eq-or-lt-of-le (le-of-suc-le-suc h))
 
--- One number that passes is enough.
-pub any-found : (n : ℕ) (p : ℕ → Bool) (k : ℕ) → k < n → p k ≡ true → anyBelow n p ≡ true
-unfolding anyBelow
-any-found zero p k h e = absurd (not-suc-le-zero h)
-any-found (suc n) p k h e =
-    ⊎-elim (λ (q : k ≡ n). or-second (anyBelow n p) (rw q at e)) (λ l. or-first (p n) (any-found n p k l e))
-    (eq-or-lt-of-le (le-of-suc-le-suc h))
-
 -- No value below n is above the greatest.
 pub max-at : (n : ℕ) (f : ℕ → ℕ) (k : ℕ) → k < n → f k ≤ maxBelow n f
 unfolding maxBelow
 max-at zero f k h = absurd (not-suc-le-zero h)
 max-at (suc n) f k h =
     ⊎-elim (λ (q : k ≡ n). rw q (omega arith)) (λ l. let m = max-at n f k l in omega arith) (eq-or-lt-of-le (le-of-suc-le-suc h))
+
+-- A binary digit counts as what it is.
+pub indicator-of : (bit : ℕ) → bit < 2 → indicator (eqb bit 1) ≡ bit
+indicator-of zero h = refl
+indicator-of (suc zero) h = refl
+indicator-of (suc (suc n)) h = absurd (omega arith)
 
 -- At most n numbers below n pass, and n do exactly where all do.
 

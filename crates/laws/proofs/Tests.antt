@@ -1,7 +1,7 @@
--- Laws of tests: conjunctions and disjunctions that pass or fail.
+-- Laws of tests: conjunctions and disjunctions that pass or fail, and tests that do not differ.
 -- Assumes nothing.
 use mathlib.Core.Path.{_≡_, refl, sym, _∙_}
-use mathlib.Core.Bool.{Bool, true, false, not, _&&_, _||_, and-eq-true-iff, false≢true}
+use mathlib.Core.Bool.{Bool, true, false, not, _&&_, _||_, xor, and-eq-true-iff, false≢true}
 use borrow.Author.Tests.{not-true, not-false}
 
 pub and-left : (a b : Bool) → (a && b) ≡ true → a ≡ true
@@ -30,6 +30,17 @@ or-second false s = s
 pub or-cases : {P : Type 0} (a b : Bool) → (a || b) ≡ true → (a ≡ true → P) → (b ≡ true → P) → P
 or-cases true b e f g = f refl
 or-cases false b e f g = g e
+
+pub or-fails : (a b : Bool) → (a || b) ≡ false → (a ≡ false) × (b ≡ false)
+or-fails true b e = absurd (false≢true (sym e))
+or-fails false b e = (refl, e)
+
+pub xor-fails : (a b : Bool) → xor a b ≡ false → a ≡ b
+unfolding xor
+xor-fails true true e = refl
+xor-fails true false e = e
+xor-fails false true e = sym e
+xor-fails false false e = refl
 
 -- What code learns of a definition's test t from its own test s of the same thing, turned over.
 pub refuted : {s t : Bool} → s ≡ t → not s ≡ true → t ≡ false

@@ -10,7 +10,7 @@ use lib.ListN.{length, getD}
 use borrow.Author.Tests.{leb-false, eqb-true, eqb-false, not-true, not-false}
 use borrow.Table.Steps.{cases}
 use Rattle.laws.specs.Ascii.{ascii}
-use Rattle.laws.proofs.Tests.{and-left, and-right, and-first-fails, and-second-fails}
+use Rattle.laws.proofs.Tests.{and-left, and-right, and-first-fails, and-second-fails, or-fails}
 use Rattle.block.specs.Refusals.{within}
 use Rattle.netlist.specs.declared.Mark.the-variants.{Open}
 use Rattle.netlist.specs.declared.Names.{Names}
@@ -29,16 +29,11 @@ record RightBrackets (parts : List Part) (names : Names) : Type 0 where
   pub many : names .used ≡ length (bracketed parts)
   pub kept : names .names ≡ fourKept (bracketed parts)
 
--- A conjunction of three fails by one of them, and a disjunction by both.
-
+-- A conjunction of three fails by one of them.
 fails : {P : Type 0} (a b c : Bool) → (a && (b && c)) ≡ false → (a ≡ false → P) → (b ≡ false → P) → (c ≡ false → P) → P
 fails true true c e f g h = h e
 fails true false c e f g h = g refl
 fails false b c e f g h = f refl
-
-or-fails : (a b : Bool) → (a || b) ≡ false → (a ≡ false) × (b ≡ false)
-or-fails true b e = absurd (false≢true (sym e))
-or-fails false b e = (refl, e)
 
 module _ (parts : List Part) (names : Names) (is : names ≡ bracketsKept parts) where
   right-is : names .right ≡ bracketsRight parts

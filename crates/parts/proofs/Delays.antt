@@ -1,31 +1,17 @@
 -- Sets moved by some ticks, held, and compared, bit by bit.
 -- Assumes nothing.
-use Prim.Native.Nat.{ℕ, _+_, _-_, _*_, _/_, _%_, _^_, _≤_, _<_}
-use mathlib.Core.Bool.{Bool, true, false, cond, not, _&&_, _||_, xor, or-false, true≢false}
+use Prim.Native.Nat.{ℕ, _-_, _^_, _<_}
+use mathlib.Core.Bool.{Bool, true, false, cond, not, _&&_, _||_, xor}
 use mathlib.Core.Path.{_≡_, refl, ap, ap₂, sym, _∙_}
-use native.Mathlib.Omega.{arith}
 use lib.Bits.{bitAnd, bitOr, bitXor}
-use lib.Dec.{ltb}
-use borrow.Author.Tests.{ltb-true, ltb-false}
-use borrow.Table.Steps.{cases}
+use Rattle.laws.proofs.Tests.{or-fails, xor-fails}
 use Rattle.bits.specs.Bits.{bitAt}
-use Rattle.bits.proofs.Bits.{bit-and, bit-or, bit-xor, bit-not, bit-shr, bit-shl, bit-shl-low, bit-above}
+use Rattle.bits.proofs.Bits.{bit-and, bit-or, bit-xor, bit-not}
 use Rattle.excitation.specs.UncertaintySet.{UncertaintySet}
 use Rattle.excitation.proofs.Finite.{setOf}
 use Rattle.excitation.proofs.Sets.{four-members}
 use Rattle.parts.specs.Parts.{setAt}
 use Rattle.parts.specs.declared.Part.{Part}
-
--- A word d ticks later.
-pub shifted-bit : (before word d k : ℕ) → before < 2 ^ 64 → 1 ≤ d → d < 64 → k < 64
-    → bitAt (bitOr (word * 2 ^ d % 2 ^ 64) (before / 2 ^ (64 - d))) k ≡ cond (ltb k d) (bitAt before (k + 64 - d)) (bitAt word (k - d))
-shifted-bit before word d k fits low high h =
-    let place : 64 - d + k ≡ k + 64 - d = omega arith in
-    bit-or (word * 2 ^ d % 2 ^ 64) (before / 2 ^ (64 - d)) k
-    ∙ cases (ltb k d)
-    (λ t. let l = ltb-true k d t in rw (t, bit-shl-low 64 word d k h l, bit-shr before (64 - d) k, place) refl)
-    (λ t. let l = ltb-false k d t in
-    rw (t, bit-shl 64 word d k h l, bit-shr before (64 - d) k, bit-above 64 before (64 - d + k) fits (omega arith), or-false) refl)
 
 -- A set that is one of two, bit by bit.
 pub either-set : (t : Bool) (s u : UncertaintySet)
@@ -34,17 +20,6 @@ either-set true s u = refl
 either-set false s u = refl
 
 -- Two sets are the same where none of their four words differs, and nowhere else.
-
-none-of : (a b : Bool) → (a || b) ≡ false → (a ≡ false) × (b ≡ false)
-none-of true b e = absurd (true≢false e)
-none-of false b e = (refl, e)
-
-not-other : (a b : Bool) → xor a b ≡ false → a ≡ b
-unfolding xor
-not-other true true e = refl
-not-other true false e = e
-not-other false true e = sym e
-not-other false false e = refl
 
 xor-same : (a : Bool) → xor a a ≡ false
 unfolding xor
@@ -58,13 +33,13 @@ module _ (a b : Part) (k : ℕ) where
   pub same-sets : bitAt others k ≡ false → setAt a k ≡ setAt b k
   unfolding setAt
   same-sets e =
-      let first = none-of _ _ (sym (bit-or _ _ k) ∙ e) in
-      let second = none-of _ _ (sym (bit-or _ _ k) ∙ first .0) in
-      let third = none-of _ _ (sym (bit-or _ _ k) ∙ second .0) in
+      let first = or-fails _ _ (sym (bit-or _ _ k) ∙ e) in
+      let second = or-fails _ _ (sym (bit-or _ _ k) ∙ first .0) in
+      let third = or-fails _ _ (sym (bit-or _ _ k) ∙ second .0) in
       four-members (word (a .l) (b .l) (third .0)) (word (a .h) (b .h) (third .1)) (word (a .hl) (b .hl) (second .1)) (word (a .lh) (b .lh) (first .1))
     where
       word : (x y : ℕ) → bitAt (bitXor x y) k ≡ false → bitAt x k ≡ bitAt y k
-      word x y e = not-other (bitAt x k) (bitAt y k) (sym (bit-xor x y k) ∙ e)
+      word x y e = xor-fails (bitAt x k) (bitAt y k) (sym (bit-xor x y k) ∙ e)
 
   pub no-other : setAt a k ≡ setAt b k → bitAt others k ≡ false
   unfolding setAt

@@ -20,22 +20,6 @@ agree f g = everySet (λ s. everySet (λ t. sameSet (f s t) (g s t)))
 agreed : (f g : UncertaintySet → UncertaintySet → UncertaintySet) → agree f g ≡ true → (s t : UncertaintySet) → f s t ≡ g s t
 agreed f g e s t = same-set (f s t) (g s t) (every-at (λ t. sameSet (f s t) (g s t)) (every-at (λ s. everySet (λ t. sameSet (f s t) (g s t))) e s) t)
 
--- AND, by a formula of the members.
-
-abbrev andSets : UncertaintySet → UncertaintySet → UncertaintySet
-andSets a b =
-    let some-a = a .has-l || a .has-h || a .has-hl || a .has-lh in
-    let some-b = b .has-l || b .has-h || b .has-hl || b .has-lh in
-    setOf
-    (a .has-l && some-b || b .has-l && some-a || a .has-hl && b .has-lh || a .has-lh && b .has-hl)
-    (a .has-h && b .has-h)
-    (a .has-hl && (b .has-h || b .has-hl) || a .has-h && b .has-hl)
-    (a .has-lh && (b .has-h || b .has-lh) || a .has-h && b .has-lh)
-
-and-sets : (s t : UncertaintySet) → andSets s t ≡ joinSets _&&_ s t
-unfolding joinSets member
-and-sets = agreed andSets (joinSets _&&_) refl
-
 infixl 30 _⊓_
 infixl 20 _⊔_
 abbrev _⊓_ : ℕ → ℕ → ℕ
@@ -44,16 +28,35 @@ _⊓_ = bitAnd
 abbrev _⊔_ : ℕ → ℕ → ℕ
 _⊔_ = bitOr
 
+-- Whether a set has a member, and the bits at which a part's set has one.
+
+abbrev hasSome : UncertaintySet → Bool
+hasSome s = s .has-l || s .has-h || s .has-hl || s .has-lh
+
+abbrev somePart : Part → ℕ
+somePart a = a .l ⊔ a .h ⊔ a .hl ⊔ a .lh
+
+-- AND, by a formula of the members.
+
+abbrev andSets : UncertaintySet → UncertaintySet → UncertaintySet
+andSets a b =
+    setOf
+    (a .has-l && hasSome b || b .has-l && hasSome a || a .has-hl && b .has-lh || a .has-lh && b .has-hl)
+    (a .has-h && b .has-h)
+    (a .has-hl && (b .has-h || b .has-hl) || a .has-h && b .has-hl)
+    (a .has-lh && (b .has-h || b .has-lh) || a .has-h && b .has-lh)
+
+and-sets : (s t : UncertaintySet) → andSets s t ≡ joinSets _&&_ s t
+unfolding joinSets member
+and-sets = agreed andSets (joinSets _&&_) refl
+
 abbrev andParts : Part → Part → Part
-andParts a b =
-    let some-a = a .l ⊔ a .h ⊔ a .hl ⊔ a .lh in
-    let some-b = b .l ⊔ b .h ⊔ b .hl ⊔ b .lh in
-    record {
-      l = a .l ⊓ some-b ⊔ b .l ⊓ some-a ⊔ a .hl ⊓ b .lh ⊔ a .lh ⊓ b .hl;
-      h = a .h ⊓ b .h;
-      hl = a .hl ⊓ (b .h ⊔ b .hl) ⊔ a .h ⊓ b .hl;
-      lh = a .lh ⊓ (b .h ⊔ b .lh) ⊔ a .h ⊓ b .lh;
-    }
+andParts a b = record {
+  l = a .l ⊓ somePart b ⊔ b .l ⊓ somePart a ⊔ a .hl ⊓ b .lh ⊔ a .lh ⊓ b .hl;
+  h = a .h ⊓ b .h;
+  hl = a .hl ⊓ (b .h ⊔ b .hl) ⊔ a .h ⊓ b .hl;
+  lh = a .lh ⊓ (b .h ⊔ b .lh) ⊔ a .h ⊓ b .lh;
+}
 
 pub and-at : (a b : Part) (k : ℕ) → setAt (andParts a b) k ≡ joinSets _&&_ (setAt a k) (setAt b k)
 unfolding setAt
@@ -96,18 +99,12 @@ invert-swaps s = same-set (swapped s) (invertSet s) (every-at (λ s. sameSet (sw
 
 -- The first level, and 0.
 
-abbrev hasSome : UncertaintySet → Bool
-hasSome s = s .has-l || s .has-h || s .has-hl || s .has-lh
-
 abbrev firstSets : UncertaintySet → UncertaintySet → UncertaintySet
 firstSets a b = setOf (a .has-l && hasSome b) (a .has-h && hasSome b) (a .has-hl && hasSome b) (a .has-lh && hasSome b)
 
 first-sets : (s t : UncertaintySet) → firstSets s t ≡ joinSets (λ x y. x) s t
 unfolding joinSets member
 first-sets = agreed firstSets (joinSets (λ x y. x)) refl
-
-abbrev somePart : Part → ℕ
-somePart a = a .l ⊔ a .h ⊔ a .hl ⊔ a .lh
 
 abbrev firstParts : Part → Part → Part
 firstParts a b = record { l = a .l ⊓ somePart b; h = a .h ⊓ somePart b; hl = a .hl ⊓ somePart b; lh = a .lh ⊓ somePart b }

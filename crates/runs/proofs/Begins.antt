@@ -1,7 +1,7 @@
 -- The runs of a row begin at the set bits whose bit before is clear, and these are counted word by word.
 -- Assumes nothing.
 use Prim.Native.Nat.{ℕ, zero, suc, _+_, _-_, _*_, _/_, _%_, _^_, _≤_, _<_, min}
-use mathlib.Core.Bool.{Bool, true, false, not, cond, _&&_, _||_, and-true, or-false}
+use mathlib.Core.Bool.{Bool, true, false, not, cond, _&&_, and-true}
 use mathlib.Core.List.{List, [], _∷_}
 use mathlib.Core.Path.{_≡_, refl, ap, ap₂, sym, subst, _∙_}
 use native.Mathlib.Nat.{add-zero, zero-add, mod-lt}
@@ -13,7 +13,7 @@ use lib.Count.{ones, onesIn, ones-cat}
 use lib.Dec.{eqb}
 use lib.ListN.{length, getD}
 use lib.Pow.{pow-pos, split, shr-lt}
-use borrow.Author.Tests.{eqb-true, eqb-false, eq-eqb, ne-eqb}
+use borrow.Author.Tests.{eqb-true, eqb-false, eq-eqb, ne-eqb, le-ltb}
 use borrow.Table.Steps.{cases}
 use Rattle.laws.specs.Below.{indicator, countBelow}
 use Rattle.laws.specs.Settled.{SettledAfter}
@@ -21,7 +21,7 @@ use Rattle.laws.specs.Turn.{listBelow}
 use Rattle.laws.proofs.Below.{count-at-most, count-same, count-append, count-beyond}
 use Rattle.laws.proofs.Turn.{list-is}
 use Rattle.bits.specs.Bits.{bitAt, rowBit}
-use Rattle.bits.proofs.Bits.{bit-and, bit-or, bit-not, bit-mod, bit-shr, bit-shl, bit-shl-low, bit-above, bit-zero}
+use Rattle.bits.proofs.Bits.{bit-and, bit-not, bit-mod, bit-moved, bit-zero}
 use Rattle.runs.specs.Runs.{Run, run, extend, runsFrom, runs}
 use Rattle.runs.proofs.Runs.{extend-grows, extend-new, grows-or-new, extend-alone, runs-apart}
 
@@ -175,17 +175,13 @@ StartsOf word before begun = (k : ℕ) → k < 64 → bitAt begun k ≡ startsAt
 abbrev shifted : ℕ → ℕ → ℕ
 shifted word before = bitOr (word * 2 ^ 1 % 2 ^ 64) (before / 2 ^ 63)
 
--- By shifting: bit 0 of the word before, shifted by 63, is its last, and the others are clear.
+-- By shifting: bit 0 is the last of the word before, and each other is the one before it.
 module _ (word before : ℕ) (fits : before < 2 ^ 64) where
   shifted-bit : (k : ℕ) → k < 64 → bitAt (shifted word before) k ≡ cond (eqb k 0) (bitAt before 63) (bitAt word (k - 1))
-  shifted-bit zero h =
-      bit-or (word * 2 ^ 1 % 2 ^ 64) (before / 2 ^ 63) 0
-      ∙ ap₂ _||_ (bit-shl-low 64 word 1 0 h (omega arith)) (bit-shr before 63 0)
+  shifted-bit zero h = bit-moved before word 1 0 fits (omega arith) (omega arith) h
   shifted-bit (suc k) h =
-      bit-or (word * 2 ^ 1 % 2 ^ 64) (before / 2 ^ 63) (suc k)
-      ∙ ap₂ _||_ (bit-shl 64 word 1 (suc k) h (omega arith)) (bit-above 1 (before / 2 ^ 63) (suc k) (shr-lt 1 63 fits) (omega arith))
-      ∙ or-false (bitAt word (suc k - 1))
-      ∙ rw (ne-eqb (suc k) 0 (λ z. omega arith)) refl
+      bit-moved before word 1 (suc k) fits (omega arith) (omega arith) h
+      ∙ rw (le-ltb (suc k) 1 (omega arith), ne-eqb (suc k) 0 (λ z. omega arith)) refl
 
   pub starts-by-shift : StartsOf word before (bitAnd word (2 ^ 64 - 1 - shifted word before))
   starts-by-shift k h =

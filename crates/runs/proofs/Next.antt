@@ -13,6 +13,7 @@ use lib.Pow.{shr-le}
 use lib.ListN.{getD}
 use borrow.Author.Tests.{ltb-true, ltb-false}
 use borrow.Table.Steps.{cases}
+use Rattle.laws.proofs.Tests.{xor-fails}
 use Rattle.bits.specs.Bits.{bitAt, rowBit}
 use Rattle.bits.proofs.Bits.{bit-xor, bit-shr, bit-zero, bit-above, bit-not}
 use Rattle.runs.specs.Rows.{NextAt}
@@ -31,20 +32,13 @@ flip-fits : (level : Bool) → flipFor level < 2 ^ 64
 flip-fits true = lit< tt
 flip-fits false = lit< tt
 
--- What a bit is, where the bit turned over is set and where it is clear.
+-- What a bit is, where the bit turned over is set.
 turned : (b level : Bool) → xor b (not level) ≡ true → b ≡ level
 unfolding xor
 turned true true e = refl
 turned true false e = sym e
 turned false true e = e
 turned false false e = refl
-
-unturned : (b level : Bool) → xor b (not level) ≡ false → b ≡ not level
-unfolding xor
-unturned true true e = e
-unturned true false e = refl
-unturned false true e = refl
-unturned false false e = sym e
 
 -- The ticks from `from` to before `at` do not have the level.
 pub record Passed (level : Bool) (row : List ℕ) (from at : ℕ) : Type 0 where
@@ -93,7 +87,7 @@ module _ (level : Bool) (row : List ℕ) (flip at : ℕ) (flips : flip ≡ flipF
   unset : (t : ℕ) → at ≤ t → at % 64 + (t - at) < 64 → bitAt looked (t - at) ≡ false → rowBit row t ≡ not level
   unset t l h e =
       let back : at + (t - at) ≡ t = omega arith in
-      ap (rowBit row) (sym back) ∙ unturned (rowBit row (at + (t - at))) level (sym (looked-bit (t - at) h) ∙ e)
+      ap (rowBit row) (sym back) ∙ xor-fails (rowBit row (at + (t - at))) (not level) (sym (looked-bit (t - at) h) ∙ e)
 
   module _ (from : ℕ) (so-far : Passed level row from at) (early : at < 256) where
     -- The word has a set bit: the lowest is the one.
