@@ -97,15 +97,6 @@ module _ {P r f : ℕ} (range : InRange P r f) where
 
 -- A pulse with a greater peak is nowhere below.
 module _ {P Q r f : ℕ} (range : InRange P r f) (h : Q ≤ P) where
-  lower-range : InRange Q r f
-  lower-range = record {
-    peak-high = (let high = range .peak-high in omega arith);
-    rise-low = range .rise-low;
-    rise-high = range .rise-high;
-    fall-low = range .fall-low;
-    fall-high = range .fall-high;
-  }
-
   pulse-grows : (k : ℕ) → pulse Q r f k ≤ pulse P r f k
   pulse-grows k =
       cases (leb k r)
@@ -119,9 +110,6 @@ module _ {P Q r f : ℕ} (range : InRange P r f) (h : Q ≤ P) where
   pub pulse-at-grows : (D x t : ℕ) → pulseAt Q r f D x t ≤ pulseAt P r f D x t
   unfolding pulseAt
   pulse-at-grows D x t = cases (ltb (t + D) x) (λ b. rw b (omega arith)) (λ b. rw b (pulse-grows (t + D - x)))
-
-pub lower-ready : {P Q r f rising falling : ℕ} → Factored P r f rising falling → Q ≤ P → Factored Q r f rising falling
-lower-ready ready h = record { range = lower-range (ready .range) h; rising-by = ready .rising-by; falling-by = ready .falling-by }
 
 -- A pulse has ended where its fall is past.
 pub pulse-quiet : (P r f D x t : ℕ) → x + r + f < t + D → pulseAt P r f D x t ≡ 0

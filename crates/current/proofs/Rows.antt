@@ -1,21 +1,21 @@
 -- A row raised part by part holds the greatest of the pulses of a run.
 -- Assumes nothing.
 use Prim.Native.Nat.{ℕ, _+_, _-_, _≤_, _<_, max}
+use mathlib.Core.Bool.{Bool}
 use mathlib.Core.List.{List}
-use mathlib.Core.Logic.{inl, inr}
-use mathlib.Core.Path.{_≡_, refl, sym, ap, _∙_}
+use mathlib.Core.Logic.{_⊎_, inl, inr}
+use mathlib.Core.Path.{_≡_, refl, sym, ap, ap₂, _∙_}
 use native.Mathlib.Nat.{le-refl, le-antisymm, max-zero}
 use native.Mathlib.Omega.{arith}
 use lib.Dec.{leb, ltb}
-use lib.ListN.{length, getD, set, replicate, length-replicate}
+use lib.ListN.{length, getD, set}
 use borrow.Author.Tests.{ltb-true, ltb-false, leb-true, leb-false, lt-ltb, le-ltb, le-leb, lt-leb}
 use borrow.Table.Steps.{cases}
 use Rattle.laws.specs.Rewritten.{Rewritten}
-use Rattle.laws.proofs.Rewritten.{rewritten-next, rewritten-to, rewritten-at, rewritten-first, rewritten-append}
-use Rattle.laws.proofs.Lists.{replicate-at}
+use Rattle.laws.proofs.Rewritten.{rewritten-next, rewritten-to, rewritten-at, rewritten-append}
 use Rattle.current.specs.Levels.{InRange}
 use Rattle.current.specs.Pulse.{pulse, pulseAt}
-use Rattle.current.specs.Runs.{raisedTo, RiseMade, FallMade, Shaped, Stamped, HeightDrawn, runPulse, RunDrawn}
+use Rattle.current.specs.Runs.{raisedTo, RiseMade, FallMade, ShapeMade, Shaped, Stamped, HeightDrawn, runPulse, RunDrawn}
 use Rattle.current.proofs.Pulses.{pulse-top, pulse-ends, pulse-most, pulse-rises, pulse-falls}
 
 -- One word more of a row that is raised.
@@ -27,17 +27,18 @@ raised-next from level k at height v {row} {row′} w place inside l e next n =
     let old : getD row′ at 0 ≡ getD row (from + k) 0 = rw place (w .rest (from + k) (inr (le-refl (from + k)))) in
     rewritten-to _ from (k + 1) next row _ n (rewritten-next (raisedTo row from level) from k at v row row′ place inside (e ∙ rw (l, old) refl) w)
 
--- Two stretches of a row that are raised, the second right after the first, are one.
-pub raised-append : (from : ℕ) (level : ℕ → ℕ) (n at m : ℕ) {row row′ after : List ℕ} → Rewritten (raisedTo row from level) from n row row′
-    → at ≡ from + n → Rewritten (raisedTo row′ at (λ k. level (n + k))) at m row′ after
-    → (next : ℕ) → n + m ≡ next → Rewritten (raisedTo row from level) from next row after
+-- Two stretches of a row that are raised to a shape, the second right after the first, are one.
+pub stamped-append : (shapes : List ℕ) (place at n place′ at′ m : ℕ) {row row′ after : List ℕ} → Stamped shapes place at n row row′
+    → place′ ≡ place + n → at′ ≡ at + n → Stamped shapes place′ at′ m row′ after → (next : ℕ) → n + m ≡ next → Stamped shapes place at next row after
 unfolding raisedTo
-raised-append from level n at m {row} {row′} {after} v place w next e =
-    rewritten-to _ from (n + m) next row _ e
-    (rewritten-append (raisedTo row from level) (raisedTo row′ at (λ k. level (n + k))) (raisedTo row from level) from n at m row row′ after place
+stamped-append shapes place at n place′ at′ m {row} {row′} {after} v level tick w next e =
+    rewritten-to _ at (n + m) next row _ e
+    (rewritten-append (raisedTo row at (λ k. getD shapes (place + k) 0)) (raisedTo row′ at′ (λ k. getD shapes (place′ + k) 0))
+    (raisedTo row at (λ k. getD shapes (place + k) 0)) at n at′ m row row′ after tick
     (λ k l. refl)
-    (λ k l. let i : at + k ≡ from + (n + k) = omega arith in
-    ap (λ x. max x (level (n + k))) (v .rest (at + k) (inr (omega arith)) ∙ ap (λ j. getD row j 0) i))
+    (λ k l. let i : at′ + k ≡ at + (n + k) = omega arith in
+    let j : place′ + k ≡ place + (n + k) = omega arith in
+    ap₂ max (v .rest (at′ + k) (inr (omega arith)) ∙ ap (λ i. getD row i 0) i) (ap (λ j. getD shapes j 0) j))
     v w)
 
 -- The word at a tick of a row that was raised.
@@ -116,48 +117,57 @@ module _ {P r f first last : ℕ} (range : InRange P r f) (ordered : first ≤ l
       rw (run-fall P r f first last t ordered l) (rw at at (each (D + last) (omega arith) (omega arith))))
       t
 
--- The shape of a pulse, made from zeros.
-pub shape-made : {P r f : ℕ} {zeros risen shape : List ℕ} → InRange P r f → zeros ≡ replicate 256 0 → RiseMade P r f zeros risen → FallMade P r f risen shape
-    → Shaped P r f shape
-shape-made {P} {r} {f} {zeros} {risen} {shape} range empty rise fall = record {
-  long = fall .long ∙ rise .long ∙ ap length empty ∙ length-replicate {A = ℕ} 256 0;
-  at = λ k. cases (ltb k r)
-      (λ t. let h = ltb-true k r t in fall .rest k (inl h) ∙ rewritten-first (pulse P r f) r zeros risen rise k h)
-      (λ t. let h = ltb-false k r t in
-      cases (ltb k (r + f))
-      (λ u. rewritten-at fall k h (ltb-true k (r + f) u) ∙ ap (pulse P r f) (let z : r + (k - r) ≡ k = omega arith in z))
-      (λ u. let l = ltb-false k (r + f) u in
-      fall .rest k (inr l) ∙ rise .rest k (inr (omega arith)) ∙ ap (λ xs. getD xs k 0) empty ∙ replicate-at 256 k 0 ∙ sym (pulse-ends range k l)));
+-- The shape of a pulse: its rise and its fall, and nothing where zeros stood.
+pub shape-made : (P r f place : ℕ) {shapes risen after : List ℕ} → RiseMade P r f place shapes risen → FallMade P r f place risen after
+    → Rewritten (pulse P r f) place (r + f) shapes after
+shape-made P r f place rise fall =
+    rewritten-append (pulse P r f) (λ k. pulse P r f (r + k)) (pulse P r f) place r (place + r) f _ _ _ refl (λ k l. refl) (λ k l. refl) rise fall
+
+pub shaped : {P r f place : ℕ} {shapes after : List ℕ} → InRange P r f → place ≤ 256 → length after ≡ 512
+    → ((k : ℕ) → k < 256 → getD shapes (place + k) 0 ≡ 0) → Rewritten (pulse P r f) place (r + f) shapes after → Shaped P r f place after
+shaped {P} {r} {f} {place} range low long zeros made = record {
+  long = long;
+  low = low;
+  at = λ k h. cases (ltb k (r + f))
+      (λ b. made .done k (ltb-true k (r + f) b))
+      (λ b. let past = ltb-false k (r + f) b in made .rest (place + k) (inr (omega arith)) ∙ zeros k h ∙ sym (pulse-ends range k past));
 }
 
+-- What is made of a shape stays outside of its pulse.
+pub shape-kept : {needed : Bool} {P r f place : ℕ} {shapes after : List ℕ} → ShapeMade needed P r f place shapes after → (i : ℕ)
+    → (i < place) ⊎ (place + (r + f) ≤ i) → getD after i 0 ≡ getD shapes i 0
+shape-kept {needed} {shapes = shapes} shape i outside =
+    cases needed (λ b. shape .made b .rest i outside) (λ b. ap (λ words. getD words i 0) (shape .kept b))
+
 -- A row raised to the whole shape of a pulse is raised to the pulse at every tick.
-stamped-at : {P r f at n : ℕ} {shape row after : List ℕ} → InRange P r f → Shaped P r f shape → r + f ≤ n → Stamped shape at n row after
-    → (t : ℕ) → getD after t 0 ≡ max (getD row t 0) (pulseAt P r f 0 at t)
-stamped-at {P} {r} {f} {at} {n} {shape} {row} {after} range shaped whole w t =
+stamped-at : {P r f place at n : ℕ} {shapes row after : List ℕ} → InRange P r f → Shaped P r f place shapes → r + f ≤ n → n ≤ 256
+    → Stamped shapes place at n row after → (t : ℕ) → getD after t 0 ≡ max (getD row t 0) (pulseAt P r f 0 at t)
+stamped-at {P} {r} {f} {place} {at} {n} {shapes} {row} {after} range shape whole few w t =
     cases (ltb t at)
     (λ b. let h = ltb-true t at b in
     w .rest t (inl h) ∙ sym (max-zero _) ∙ ap (max (getD row t 0)) (sym (before-start P r f 0 at t (omega arith))))
     (λ b. let h = ltb-false t at b in
     let now = at-start P r f 0 at t (t - at) (omega arith) in
     cases (ltb t (at + n))
-    (λ u. raised-at (λ k. getD shape k 0) w t h (ltb-true t (at + n) u) ∙ ap (max (getD row t 0)) (shaped .at (t - at) ∙ sym now))
+    (λ u. let l = ltb-true t (at + n) u in
+    raised-at (λ k. getD shapes (place + k) 0) w t h l ∙ ap (max (getD row t 0)) (shape .at (t - at) (omega arith) ∙ sym now))
     (λ u. let l = ltb-false t (at + n) u in
     w .rest t (inr l) ∙ sym (max-zero _) ∙ ap (max (getD row t 0)) (sym (now ∙ pulse-ends range (t - at) (omega arith)))))
 
-module _ {P r f n : ℕ} {shape : List ℕ} (range : InRange P r f) (shaped : Shaped P r f shape) (whole : r + f ≤ n) where
+module _ {P r f place n : ℕ} {shapes : List ℕ} (range : InRange P r f) (shape : Shaped P r f place shapes) (whole : r + f ≤ n) (few : n ≤ 256) where
   -- A run of one tick: its pulse alone.
-  pub run-of-one : {first last : ℕ} {row after : List ℕ} → first ≡ last → Stamped shape first n row after → RunDrawn P r f first last row after
+  pub run-of-one : {first last : ℕ} {row after : List ℕ} → first ≡ last → Stamped shapes place first n row after → RunDrawn P r f first last row after
   run-of-one {first} {last} {row} one w = record {
     long = w .long;
     at = λ t.
         let covers = run-covers range (let z : first ≤ last = omega arith in z) 0 first (omega arith) (omega arith) t in
         let within = run-within range (let z : first ≤ last = omega arith in z) 0 t (pulseAt P r f 0 first t)
         (λ x low high. let e : x ≡ first = omega arith in rw e (le-refl _)) in
-        stamped-at range shaped whole w t ∙ ap (max (getD row t 0)) (le-antisymm covers within);
+        stamped-at range shape whole few w t ∙ ap (max (getD row t 0)) (le-antisymm covers within);
   }
 
   -- A run of more ticks: the first pulse, the last one, and the peak between their peaks.
-  pub run-drawn : {first last : ℕ} {row begun ended after : List ℕ} → first ≤ last → Stamped shape first n row begun → Stamped shape last n begun ended
+  pub run-drawn : {first last : ℕ} {row begun ended after : List ℕ} → first ≤ last → Stamped shapes place first n row begun → Stamped shapes place last n begun ended
       → HeightDrawn P (first + r) (last + r + 1) ended after → RunDrawn P r f first last row after
   run-drawn {first} {last} {row} {begun} {ended} {after} ordered v w peak = record {
     long = peak .long ∙ w .long ∙ v .long;
@@ -185,4 +195,4 @@ module _ {P r f n : ℕ} {shape : List ℕ} (range : InRange P r f) (shaped : Sh
     covers x low high = run-covers range ordered 0 x (omega arith) (omega arith)
 
     stamps : (t : ℕ) → getD ended t 0 ≡ max (max (getD row t 0) (pulseAt P r f 0 first t)) (pulseAt P r f 0 last t)
-    stamps t = stamped-at range shaped whole w t ∙ ap (λ x. max x (pulseAt P r f 0 last t)) (stamped-at range shaped whole v t)
+    stamps t = stamped-at range shape whole few w t ∙ ap (λ x. max x (pulseAt P r f 0 last t)) (stamped-at range shape whole few v t)

@@ -17,9 +17,9 @@ use Rattle.excitation.specs.declared.Excitation.{Excitation}
 use Rattle.rows.specs.Rows.{setIn, RowRead}
 use Rattle.runs.specs.Rows.{ticksIn}
 use Rattle.waveform.specs.Rows.{waveformIn}
-use Rattle.current.specs.Current.{ticksWhere}
+use Rattle.current.specs.Current.{Transitions, ticksWhere}
 use Rattle.current.specs.Drawing.{transitionsIn}
-use Rattle.current.specs.Edges.{ticksOfRow, transitionsBy, TicksFrom}
+use Rattle.current.specs.Edges.{ticksOfRow, TicksFrom}
 use Rattle.current.proofs.Ticks.{ticks-by-test, passes-tick, tick-passes}
 
 -- The ticks of a row are those whose bit is set.
@@ -50,12 +50,15 @@ module _ {e : Excitation} {net : ℕ} {work row : List ℕ} (read : RowRead e ne
       record { long = read .long; in-time = in-time; before = λ t h. read .ticks t (omega arith) ∙ none t h }
 
   pub read-at-most : (last : ℕ) → ((t : ℕ) → last < t → t < 256 → member e (setIn work net t) ≡ false)
-      → (x : ℕ) → List·Memᴰ x (ticksOfRow row) → x ≤ last
-  read-at-most last none x m =
-      let held = tick-held row x m in
+      → (x : ℕ) → x < 256 → rowBit row x ≡ true → x ≤ last
+  read-at-most last none x h held =
       cases (leb x last)
       (λ b. leb-true x last b)
-      (λ b. absurd (false≢true (sym (read .ticks x (held .0) ∙ none x (leb-false x last b) (held .0)) ∙ held .1)))
+      (λ b. absurd (false≢true (sym (read .ticks x h ∙ none x (leb-false x last b) h) ∙ held)))
+
+-- The transitions that the rows of lh and hl allow.
+abbrev pub transitionsBy : List ℕ → List ℕ → Transitions
+transitionsBy rises falls = record { rises = ticksOfRow rises; falls = ticksOfRow falls }
 
 -- The rows of lh and hl hold the transitions that the net's waveform allows.
 pub transitions-read : {net : ℕ} {work rises falls : List ℕ} → RowRead lh net work rises → RowRead hl net work falls

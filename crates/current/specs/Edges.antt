@@ -1,25 +1,38 @@
--- The ticks at which the code draws an edge, and what is drawn for them.
-use Prim.Native.Nat.{ℕ, _≤_, _<_}
-use mathlib.Core.Bool.{true, false, not, _&&_}
+-- The edges of a gate, and the one pass over its ticks in which the code draws both.
+use Prim.Native.Nat.{ℕ, _≤_, _<_, max, min}
+use mathlib.Core.Bool.{Bool, true, false, cond, not, _&&_, _||_}
 use mathlib.Core.List.{List}
 use mathlib.Core.Path.{_≡_}
+use lib.Dec.{leb}
 use lib.ListN.{length, getD}
+use Rattle.laws.specs.Below.{maxBelow}
 use Rattle.bits.specs.Bits.{rowBit}
+use Rattle.excitation.specs.Excitation.{hl, lh}
+use Rattle.excitation.specs.declared.Excitation.{Excitation}
 use Rattle.block.specs.Accepted.{InRanges}
-use Rattle.block.specs.Limits.{gateLimit}
 use Rattle.block.specs.View.{FieldsFit}
 use Rattle.block.specs.declared.Gate.{Gate}
 use Rattle.runs.specs.Rows.{ticksIn}
-use Rattle.current.specs.Current.{Transitions, ticksWhere, gateCurrent}
+use Rattle.current.specs.Current.{ticksWhere}
 use Rattle.current.specs.Pulse.{pulseAt}
+use Rattle.current.specs.Runs.{Shaped}
+use Rattle.current.specs.declared.edge.Run.{Run}
+use Rattle.current.specs.declared.level.Pulse.{Pulse}
 
 -- The ticks of a row of 256 bits.
 unfoldable pub ticksOfRow : List ℕ → List ℕ
 ticksOfRow row = ticksWhere (λ held. held) 0 (ticksIn row)
 
--- The transitions that the rows of lh and hl allow.
-abbrev pub transitionsBy : List ℕ → List ℕ → Transitions
-transitionsBy lh hl = record { rises = ticksOfRow lh; falls = ticksOfRow hl }
+-- The edge of a gate with the greater peak, or the other one, and its peak.
+unfoldable pub edgeOf : Gate → Bool → Excitation
+edgeOf gate is-greater = cond (leb (gate .peaks .hl) (gate .peaks .lh)) (cond is-greater lh hl) (cond is-greater hl lh)
+
+unfoldable pub peakOf : Gate → Bool → ℕ
+peakOf gate is-greater = cond is-greater (max (gate .peaks .lh) (gate .peaks .hl)) (min (gate .peaks .lh) (gate .peaks .hl))
+
+-- The pulse of that peak, as the code has it.
+abbrev pub pulseOf : Gate → Bool → Pulse
+pulseOf gate is-greater = record { peak = peakOf gate is-greater; rise = gate .rise; fall = gate .fall }
 
 -- A row of 256 bits that has no tick before tick `first`.
 pub record TicksFrom (first : ℕ) (ticks : List ℕ) : Type 0 where
@@ -27,43 +40,66 @@ pub record TicksFrom (first : ℕ) (ticks : List ℕ) : Type 0 where
   pub in-time : first ≤ 256
   pub before : (t : ℕ) → t < first → rowBit ticks t ≡ false
 
--- The ticks of one row that are not ticks of another.
-pub record Without (ticks others rest : List ℕ) : Type 0 where
-  pub long : length rest ≡ 4
-  pub at : (t : ℕ) → t < 256 → rowBit rest t ≡ rowBit others t && not (rowBit ticks t)
-
--- A row of currents once the pulses of every tick of a row of bits are drawn: the least row that is below neither the old one nor any of
--- these pulses.
-pub record EdgeDrawn (P r f D : ℕ) (ticks row after : List ℕ) : Type 0 where
-  pub long : length after ≡ length row
-  pub old : (t : ℕ) → getD row t 0 ≤ getD after t 0
-  pub new : (x t : ℕ) → x < 256 → rowBit ticks x ≡ true → pulseAt P r f D x t ≤ getD after t 0
-  pub most : (t bound : ℕ) → getD row t 0 ≤ bound → ((x : ℕ) → x < 256 → rowBit ticks x ≡ true → pulseAt P r f D x t ≤ bound)
-      → getD after t 0 ≤ bound
-
--- A row of currents once the pulses of both edges are drawn, of peak P at the ticks of one and of peak Q at those of the other: the least
--- row that is below neither the old one nor any of these pulses.
-pub record EdgesDrawn (P Q r f D : ℕ) (ticks others row after : List ℕ) : Type 0 where
-  pub long : length after ≡ length row
-  pub one : (x t : ℕ) → x < 256 → rowBit ticks x ≡ true → pulseAt P r f D x t ≤ getD after t 0
-  pub other : (x t : ℕ) → x < 256 → rowBit others x ≡ true → pulseAt Q r f D x t ≤ getD after t 0
-  pub most : (t bound : ℕ) → getD row t 0 ≤ bound → ((x : ℕ) → x < 256 → rowBit ticks x ≡ true → pulseAt P r f D x t ≤ bound)
-      → ((x : ℕ) → x < 256 → rowBit others x ≡ true → pulseAt Q r f D x t ≤ bound) → getD after t 0 ≤ bound
-
--- A gate, and the rows of its edges.
-pub record GateEdges (gate : Gate) (lh hl : List ℕ) : Type 0 where
+-- The fields that the drawing of a gate needs.
+pub record PulseFields (gate : Gate) : Type 0 where
   pub ranges : InRanges (gate .contact) (gate .delay) (gate .rise) (gate .fall)
   pub fits : FieldsFit gate
-  pub rises : TicksFrom (gate .delay) lh
-  pub falls : TicksFrom (gate .delay) hl
 
--- Two rows that have no tick, where the code finds none.
-pub record NoTicks (lh hl : List ℕ) : Type 0 where
-  pub no-rise : (t : ℕ) → t < 256 → rowBit lh t ≡ false
-  pub no-fall : (t : ℕ) → t < 256 → rowBit hl t ≡ false
+-- A gate, and the ticks at which its sets allow each of its edges.
+pub record GateEdges (gate : Gate) (greater lower : List ℕ) : Type 0 where
+  pub fields : PulseFields gate
+  pub greater-from : TicksFrom (gate .delay) greater
+  pub lower-from : TicksFrom (gate .delay) lower
 
--- A row that holds a gate's current.
-pub record RowDrawn (gate : Gate) (transitions : Transitions) (row : List ℕ) : Type 0 where
+-- The pulse at tick t of an edge at tick x, where the set of tick x allows that edge.
+unfoldable pub edgePulse : Gate → Bool → List ℕ → ℕ → ℕ → ℕ
+edgePulse gate is-greater ticks x t = cond (rowBit ticks x) (pulseAt (peakOf gate is-greater) (gate .rise) (gate .fall) (gate .delay) x t) 0
+
+-- The greater of the hl and lh pulses at tick t that the set of tick x allows. The rows are those of the edge with the greater peak and of
+-- the other one.
+unfoldable pub allowedPulse : Gate → List ℕ → List ℕ → ℕ → ℕ → ℕ
+allowedPulse gate greater lower x t = max (edgePulse gate true greater x t) (edgePulse gate false lower x t)
+
+-- A row once the sets of the ticks before tick `passed` are passed: its words are, tick by tick, the greatest hl or lh pulse that these
+-- sets allow.
+pub record Passed (gate : Gate) (greater lower : List ℕ) (passed : ℕ) (row : List ℕ) : Type 0 where
   pub long : length row ≡ 512
-  pub at : (t : ℕ) → getD row t 0 ≡ gateCurrent gate transitions t
-  pub small : (t : ℕ) → getD row t 0 ≤ gateLimit
+  pub at : (t : ℕ) → getD row t 0 ≡ maxBelow passed (λ x. allowedPulse gate greater lower x t)
+
+-- A row of bits that has no tick.
+abbrev pub NoTick : List ℕ → Type 0
+NoTick ticks = (t : ℕ) → t < 256 → rowBit ticks t ≡ false
+
+-- The ticks of one row that are not ticks of another, and the ticks of either row.
+pub record Without (ticks others rest : List ℕ) : Type 0 where
+  pub long : length rest ≡ 4
+  pub at : (t : ℕ) → t < 256 → rowBit rest t ≡ rowBit ticks t && not (rowBit others t)
+
+pub record Either (ticks others all : List ℕ) : Type 0 where
+  pub long : length all ≡ 4
+  pub at : (t : ℕ) → t < 256 → rowBit all t ≡ rowBit ticks t || rowBit others t
+
+-- The ticks by the one peak that each has: those of the greater peak, those of the lower one, where it is alone, and all.
+pub record TicksByPeak (greater lower all : List ℕ) : Type 0 where
+  pub greater-long : length greater ≡ 4
+  pub lower-long : length lower ≡ 4
+  pub either : Either greater lower all
+  pub apart : (x : ℕ) → x < 256 → rowBit lower x ≡ true → rowBit greater x ≡ false
+
+-- The next run, not before tick `from`: none of the ticks before it has a peak, all of its ticks have the same.
+pub record NextRun (greater lower : List ℕ) (from : ℕ) (run : Run) : Type 0 where
+  pub low : from ≤ run .first
+  pub in-time : run .first ≤ 256
+  pub some : run .first < 256 → run .first < run .end
+  pub high : run .end ≤ 256
+  pub before : (x : ℕ) → from ≤ x → x < run .first → (rowBit greater x ≡ false) × (rowBit lower x ≡ false)
+  pub inside : (x : ℕ) → run .first ≤ x → x < run .end → rowBit (cond (run .greater) greater lower) x ≡ true
+
+-- Where the shape of a peak's pulse stands among the shapes; and the shapes, each made where a tick has its peak.
+unfoldable pub placeOf : Bool → ℕ
+placeOf is-greater = cond is-greater 0 256
+
+pub record ShapesMade (gate : Gate) (greater lower shapes : List ℕ) : Type 0 where
+  pub long : length shapes ≡ 512
+  pub made : (is-greater : Bool) (x : ℕ) → x < 256 → rowBit (cond is-greater greater lower) x ≡ true
+      → Shaped (peakOf gate is-greater) (gate .rise) (gate .fall) (placeOf is-greater) shapes

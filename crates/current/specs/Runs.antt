@@ -1,6 +1,6 @@
 -- The pulses of a run of ticks, as the code draws them into a row.
-use Prim.Native.Nat.{ℕ, _+_, _-_, max}
-use mathlib.Core.Bool.{cond}
+use Prim.Native.Nat.{ℕ, _+_, _-_, _≤_, _<_, max}
+use mathlib.Core.Bool.{Bool, true, false, cond}
 use mathlib.Core.List.{List}
 use mathlib.Core.Path.{_≡_}
 use lib.Dec.{leb, ltb}
@@ -12,24 +12,29 @@ use Rattle.current.specs.Pulse.{pulse}
 unfoldable pub raisedTo : List ℕ → ℕ → (ℕ → ℕ) → ℕ → ℕ
 raisedTo row from level k = max (getD row (from + k) 0) (level k)
 
--- A shape once the rise of a pulse is made, up to before the peak, and once its fall is, from the peak on.
-abbrev pub RiseMade : ℕ → ℕ → ℕ → List ℕ → List ℕ → Type 0
-RiseMade P r f = Rewritten (pulse P r f) 0 r
+-- Shapes once the rise of a pulse is made, up to before the peak, and once its fall is, from the peak on. The pulse stands there from a
+-- place on.
+abbrev pub RiseMade : ℕ → ℕ → ℕ → ℕ → List ℕ → List ℕ → Type 0
+RiseMade P r f place = Rewritten (pulse P r f) place r
 
-abbrev pub FallMade : ℕ → ℕ → ℕ → List ℕ → List ℕ → Type 0
-FallMade P r f = Rewritten (λ k. pulse P r f (r + k)) r f
+abbrev pub FallMade : ℕ → ℕ → ℕ → ℕ → List ℕ → List ℕ → Type 0
+FallMade P r f place = Rewritten (λ k. pulse P r f (r + k)) (place + r) f
 
--- The shape of a pulse: its level after each number of ticks.
-pub record Shaped (P r f : ℕ) (shape : List ℕ) : Type 0 where
-  pub long : length shape ≡ 256
-  pub at : (k : ℕ) → getD shape k 0 ≡ pulse P r f k
+-- Shapes once that of a pulse is made, where it is needed.
+pub record ShapeMade (needed : Bool) (P r f place : ℕ) (shapes after : List ℕ) : Type 0 where
+  pub long : length after ≡ length shapes
+  pub made : needed ≡ true → Rewritten (pulse P r f) place (r + f) shapes after
+  pub kept : needed ≡ false → after ≡ shapes
 
--- A row raised from tick `at` on to the first n levels of a shape, and to eight of them from level `from` on.
-abbrev pub Stamped : List ℕ → ℕ → ℕ → List ℕ → List ℕ → Type 0
-Stamped shape at n row = Rewritten (raisedTo row at (λ k. getD shape k 0)) at n row
+-- The shape of a pulse among the shapes: its level after each number of ticks.
+pub record Shaped (P r f place : ℕ) (shapes : List ℕ) : Type 0 where
+  pub long : length shapes ≡ 512
+  pub low : place ≤ 256
+  pub at : (k : ℕ) → k < 256 → getD shapes (place + k) 0 ≡ pulse P r f k
 
-abbrev pub EightStamped : List ℕ → ℕ → ℕ → List ℕ → List ℕ → Type 0
-EightStamped shape from at row = Rewritten (raisedTo row at (λ k. getD shape (from + k) 0)) at 8 row
+-- A row raised from tick `at` on to n levels of the shapes from a place on.
+abbrev pub Stamped : List ℕ → ℕ → ℕ → ℕ → List ℕ → List ℕ → Type 0
+Stamped shapes place at n row = Rewritten (raisedTo row at (λ k. getD shapes (place + k) 0)) at n row
 
 -- A row once a height is drawn from tick `from` to before tick `to`.
 abbrev pub HeightDrawn : ℕ → ℕ → ℕ → List ℕ → List ℕ → Type 0

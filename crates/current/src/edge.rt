@@ -1,86 +1,113 @@
-// The pulses of a gate's edges. The ticks at which an edge is drawn are a row of bits, taken run by run.
+// The edges of a gate, lh and hl, and the runs of ticks by the peak that they allow. A row of 256 bits has the ticks at which the gate's
+// sets allow an edge.
 ghost use mathlib.Core.Path.{_≡_};
-ghost use mathlib.Core.Bool.{true, false};
-ghost use Prim.Native.Nat.{_≤_};
+ghost use mathlib.Core.Bool.{false};
+ghost use Prim.Native.Nat.{_≤_, _<_};
 ghost use lib.ListN.{length};
-ghost use Rattle.runs.specs.Rows.{NextAt};
-ghost use Rattle.current.specs.Levels.{Factored};
-ghost use Rattle.current.specs.Edges.{TicksFrom, Without, EdgeDrawn, EdgesDrawn, NoTicks};
-use super::Word;
-use super::draw;
-use super::level::Pulse;
+ghost use Rattle.bits.specs.Bits.{rowBit};
+ghost use Rattle.block.specs.View.{FieldsFit};
+ghost use Rattle.current.specs.Edges.{edgeOf, peakOf, NoTick, Without, Either, TicksByPeak, NextRun};
+use block::Gate;
+use excitation::Excitation;
+use excitation::HL;
+use excitation::LH;
 
-// Whether one of two rows has a tick.
-pub fn switches(lh: &[u64], hl: &[u64]) -> bool
-    requires { ⌜ (length (now lh) ≡ 4) × (length (now hl) ≡ 4) ⌝ }
-    ensures { λ r. ⌜ (r ≡ false → NoTicks (now (lh .entry)) (now (hl .entry))) ⌝ }
+// A run of ticks, from tick `first` to before tick `end`, that allow the same peak: the greater of the gate's two, or the lower.
+pub struct Run {
+    pub first: usize,
+    pub end: usize,
+    pub greater: bool,
+}
+
+// The edge whose peak is the greater one, or the other edge.
+pub fn edge_of(gate: Gate, greater: bool) -> Excitation
+    ensures { λ r. ⌜ r ≡ edgeOf gate greater ⌝ }
 {
-    let rises = lh[0] | lh[1] | lh[2] | lh[3];
-    let falls = hl[0] | hl[1] | hl[2] | hl[3];
-    rises | falls != 0
+    if gate.peaks.hl <= gate.peaks.lh {
+        if greater { LH } else { HL }
+    } else {
+        if greater { HL } else { LH }
+    }
+}
+
+// Its peak.
+pub fn peak_of(gate: Gate, greater: bool) -> u32
+    requires { ⌜ FieldsFit gate ⌝ }
+    ensures { λ r. ⌜ r ≡ peakOf gate greater ⌝ }
+{
+    if greater {
+        return numbers::max_usize(gate.peaks.lh, gate.peaks.hl) as u32;
+    }
+    numbers::min_usize(gate.peaks.lh, gate.peaks.hl) as u32
+}
+
+// Whether a row has a tick.
+pub fn has_tick(ticks: &[u64]) -> bool
+    requires { ⌜ length (now ticks) ≡ 4 ⌝ }
+    ensures { λ r. ⌜ (r ≡ false → NoTick (now (ticks .entry))) ⌝ }
+{
+    ticks[0] | ticks[1] | ticks[2] | ticks[3] != 0
 }
 
 // The ticks of one row that are not ticks of another.
-fn without(ticks: &[u64], others: &[u64]) -> [u64; 4]
+pub fn without(ticks: &[u64], others: &[u64]) -> [u64; 4]
     requires { ⌜ (length (now ticks) ≡ 4) × (length (now others) ≡ 4) ⌝ }
     ensures { λ r. ⌜ Without (now (ticks .entry)) (now (others .entry)) r ⌝ }
 {
     [
-        others[0] & !ticks[0],
-        others[1] & !ticks[1],
-        others[2] & !ticks[2],
-        others[3] & !ticks[3],
+        ticks[0] & !others[0],
+        ticks[1] & !others[1],
+        ticks[2] & !others[2],
+        ticks[3] & !others[3],
     ]
 }
 
-// The pulses of an edge at the ticks of a row, run by run. The first of them is tick `first`.
-fn draw_runs(row: &mut [Word], pulse: Pulse, ticks: &[u64], delay: usize, first: usize)
-    requires { ⌜ (length (now row) ≡ 512) × Factored (pulse .peak) (pulse .rise) (pulse .fall) (pulse .rising) (pulse .falling) × TicksFrom delay (now ticks) × NextAt true (now ticks) delay first ⌝ }
-    ensures { λ _. ⌜ EdgeDrawn (pulse .peak) (pulse .rise) (pulse .fall) delay (now (ticks .entry)) (now (row .entry)) (now (row .exit)) ⌝ }
+// The ticks of either row.
+pub fn either(ticks: &[u64], others: &[u64]) -> [u64; 4]
+    requires { ⌜ (length (now ticks) ≡ 4) × (length (now others) ≡ 4) ⌝ }
+    ensures { λ r. ⌜ Either (now (ticks .entry)) (now (others .entry)) r ⌝ }
 {
-    let mut shape: [Word; 256] = [0; 256];
-    draw::make_shape(&mut shape, pulse);
-    let mut t = first;
-    while t < 256 {
-        let end = runs::next_at(ticks, t, false);
-        draw::draw_run(row, pulse, &shape, t - delay, end - 1 - delay);
-        t = runs::next_at(ticks, end, true);
-    }
+    [
+        ticks[0] | others[0],
+        ticks[1] | others[1],
+        ticks[2] | others[2],
+        ticks[3] | others[3],
+    ]
 }
 
-// The pulses of an edge at the ticks of a row. None is before tick `delay`.
-fn draw_edge(row: &mut [Word], pulse: Pulse, ticks: &[u64], delay: usize)
-    requires { ⌜ (length (now row) ≡ 512) × Factored (pulse .peak) (pulse .rise) (pulse .fall) (pulse .rising) (pulse .falling) × TicksFrom delay (now ticks) ⌝ }
-    ensures { λ _. ⌜ EdgeDrawn (pulse .peak) (pulse .rise) (pulse .fall) delay (now (ticks .entry)) (now (row .entry)) (now (row .exit)) ⌝ }
+// Whether tick t, below 256, is a tick of a row.
+fn has_at(ticks: &[u64], t: usize) -> bool
+    requires { ⌜ (length (now ticks) ≡ 4) × (t < 256) ⌝ }
+    ensures { λ r. ⌜ r ≡ rowBit (now (ticks .entry)) t ⌝ }
 {
-    let first = runs::next_at(ticks, delay, true);
+    (ticks[t / 64] >> (t % 64)) % 2 == 1
+}
+
+// The next run, not before tick `from`. Where no tick is left, it is empty, at tick 256.
+pub fn next_run(greater: &[u64], lower: &[u64], all: &[u64], from: usize) -> Run
+    requires { ⌜ TicksByPeak (now greater) (now lower) (now all) × (from ≤ 256) ⌝ }
+    ensures { λ r. ⌜ NextRun (now (greater .entry)) (now (lower .entry)) from r ⌝ }
+{
+    let first = runs::next_at(all, from, true);
     if first == 256 {
-        return;
+        return Run {
+            first,
+            end: 256,
+            greater: true,
+        };
     }
-    draw_runs(row, pulse, ticks, delay, first);
-}
-
-// The pulses of both edges, `ticks` being those of the edge with the greater peak. They have the same rise and fall, so that at a tick
-// that holds both edges the pulse with the greater peak is nowhere below the other, which is left out.
-pub fn draw_edges(
-    row: &mut [Word],
-    pulse: Pulse,
-    lower: u32,
-    ticks: &[u64],
-    others: &[u64],
-    delay: usize,
-)
-    requires { ⌜ (length (now row) ≡ 512) × Factored (pulse .peak) (pulse .rise) (pulse .fall) (pulse .rising) (pulse .falling) × (lower ≤ pulse .peak) × TicksFrom delay (now ticks) × TicksFrom delay (now others) ⌝ }
-    ensures { λ _. ⌜ EdgesDrawn (pulse .peak) lower (pulse .rise) (pulse .fall) delay (now (ticks .entry)) (now (others .entry)) (now (row .entry)) (now (row .exit)) ⌝ }
-{
-    let lower_pulse = Pulse {
-        peak: lower,
-        rise: pulse.rise,
-        fall: pulse.fall,
-        rising: pulse.rising,
-        falling: pulse.falling,
-    };
-    let rest = without(ticks, others);
-    draw_edge(row, pulse, ticks, delay);
-    draw_edge(row, lower_pulse, &rest, delay);
+    if has_at(greater, first) {
+        let end = runs::next_at(greater, first, false);
+        return Run {
+            first,
+            end,
+            greater: true,
+        };
+    }
+    let end = runs::next_at(lower, first, false);
+    Run {
+        first,
+        end,
+        greater: false,
+    }
 }

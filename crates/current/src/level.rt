@@ -4,11 +4,15 @@ ghost use Prim.Native.Nat.{_≤_, _<_};
 ghost use Rattle.block.specs.Limits.{peakLimit};
 ghost use Rattle.current.specs.Levels.{factorOf, levelBy};
 
-// Peak, rise and fall of a pulse, and the factors by which the levels of its rise and its fall are taken.
+// Peak, rise and fall of a pulse.
 pub struct Pulse {
     pub peak: u32,
     pub rise: usize,
     pub fall: usize,
+}
+
+// The factors by which the levels of a pulse's rise and of its fall are taken.
+pub struct Factors {
     pub rising: u32,
     pub falling: u32,
 }

@@ -4,6 +4,7 @@ mod drop;
 mod edge;
 mod gate;
 mod level;
+mod pass;
 mod sheet;
 
 // Document 01's word of a sheet, in microamperes.

@@ -22,6 +22,12 @@ pub fn max_u64(a: u64, b: u64) -> u64
 }
 
 // The lesser of two numbers.
+pub fn min_usize(a: usize, b: usize) -> usize
+    ensures { λ r. ⌜ r ≡ min a b ⌝ }
+{
+    if a < b { a } else { b }
+}
+
 pub fn min_u64(a: u64, b: u64) -> u64
     ensures { λ r. ⌜ r ≡ min a b ⌝ }
 {

@@ -22,7 +22,7 @@ returns : tie.Need-returns
 returns c =
     let first = c .before .before .before in
     let start = first .before .before .before .before .before in
-    run-of-one (start .pre .1 .range) (start .pre .2) (omega arith) (omega arith) (first .stamp .ensures)
+    run-of-one (start .pre .1) (start .pre .2) (omega arith) (omega arith) (omega arith) (first .stamp .ensures)
 
 stamp-requires-2 : tie.Need-stamp-requires-2
 stamp-requires-2 c κs = search needs
@@ -47,7 +47,7 @@ returns-2 c =
     let second = c .before .before .before .before .before .before .before .before in
     let first = second .before .before .before .before .before in
     let start = first .before .before .before .before .before in
-    run-drawn (start .pre .1 .range) (start .pre .2) (omega arith) (start .pre .3) (first .stamp .ensures) (second .stamp2 .ensures)
+    run-drawn (start .pre .1) (start .pre .2) (omega arith) (omega arith) (start .pre .3) (first .stamp .ensures) (second .stamp2 .ensures)
     (c .before .before .draw-level .ensures)
 
 pub draw-run-spec : {M : Type 1} → statement M

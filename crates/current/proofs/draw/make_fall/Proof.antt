@@ -12,14 +12,14 @@ use Rattle.current.proofs.draw.make_fall.Statement.{statement}
 use Rattle.current.proofs.draw.make_fall.Tie as tie
 
 abbrev Inv-loop : tie.InvT-loop
-Inv-loop shape₀ p end k₀ shape k =
-    (p .rise ≤ k) × (k ≤ end) × Rewritten (λ j. pulse (p .peak) (p .rise) (p .fall) (p .rise + j)) (p .rise) (k - p .rise) shape₀ shape
+Inv-loop shapes₀ place p factors end k₀ shapes k =
+    (p .rise ≤ k) × (k ≤ end) × Rewritten (λ j. pulse (p .peak) (p .rise) (p .fall) (p .rise + j)) (place + p .rise) (k - p .rise) shapes₀ shapes
 
 abbrev μ-loop : tie.MeasureT-loop
-μ-loop shape₀ pulse end k₀ shape k = end - k
+μ-loop shapes₀ place pulse factors end k₀ shapes k = end - k
 
 add-end : tie.Need-add-end Inv-loop μ-loop
-add-end c = let range = c .before .before .pre .1 .range in omega (arith, range .rise-high, range .fall-high)
+add-end c = let range = c .before .before .pre .2 .range in omega (arith, range .rise-high, range .fall-high)
 
 loop-holds : tie.Need-loop-holds Inv-loop μ-loop
 loop-holds c = (omega arith, omega arith, rewritten-to _ _ 0 _ _ _ (omega arith) (rewritten-none _ _ _))
@@ -28,13 +28,16 @@ sub-level : tie.Need-sub-level Inv-loop μ-loop
 sub-level c = search needs
 
 level-requires : tie.Need-level-requires Inv-loop μ-loop
-level-requires c κs = let range = c .before .before .before .before .pre .1 .range in (range .peak-high, omega (arith, range .fall-high))
+level-requires c κs = let range = c .before .before .before .before .pre .2 .range in (range .peak-high, omega (arith, range .fall-high))
 
-mul-shape : tie.Need-mul-shape Inv-loop μ-loop
-mul-shape c = search needs
+add-shapes : tie.Need-add-shapes Inv-loop μ-loop
+add-shapes c = search needs
 
-slice-write-shape : tie.Need-slice-write-shape Inv-loop μ-loop
-slice-write-shape c = let range = c .before .before .before .before .before .pre .1 .range in omega (arith, c .before .before .loop .inv .2 .long, range .rise-high, range .fall-high)
+mul-shapes : tie.Need-mul-shapes Inv-loop μ-loop
+mul-shapes c = search needs
+
+slice-write-shapes : tie.Need-slice-write-shapes Inv-loop μ-loop
+slice-write-shapes c = let range = c .before .before .before .before .before .pre .2 .range in omega (arith, c .before .before .loop .inv .2 .long, range .rise-high, range .fall-high)
 
 add-k : tie.Need-add-k Inv-loop μ-loop
 add-k c = search needs
@@ -47,14 +50,14 @@ loop-again c =
     let start = c .before .before .before .before .before in
     let loop = c .before .before .loop in
     let p = start .args .pulse in
-    let level = fall-level (start .pre .1) (loop .k) (omega arith) (omega arith) (c .level .ensures) in
+    let level = fall-level (start .pre .2) (loop .k) (omega arith) (omega arith) (c .level .ensures) in
     let since : loop .k ≡ p .rise + (loop .k - p .rise) = omega arith in
-    let range = start .pre .1 .range in (
+    let range = start .pre .2 .range in (
       omega arith,
       omega arith,
       rewritten-to _ _ _ _ _ _ (omega arith)
-          (rewritten-next (λ j. pulse (p .peak) (p .rise) (p .fall) (p .rise + j)) (p .rise) (loop .k - p .rise) _ _ _ _ (omega arith)
-          (omega (arith, start .pre .0, range .rise-high, range .fall-high)) (level ∙ ap (pulse (p .peak) (p .rise) (p .fall)) since) (loop .inv .2)),
+          (rewritten-next (λ j. pulse (p .peak) (p .rise) (p .fall) (p .rise + j)) (start .args .place + p .rise) (loop .k - p .rise) _ _ _ _ (omega arith)
+          (omega (arith, start .pre .0, start .pre .1, range .rise-high, range .fall-high)) (level ∙ ap (pulse (p .peak) (p .rise) (p .fall)) since) (loop .inv .2)),
     )
 
 same-length : tie.Need-same-length Inv-loop μ-loop
@@ -75,8 +78,9 @@ make-fall-spec =
     loop-holds
     sub-level
     level-requires
-    mul-shape
-    slice-write-shape
+    add-shapes
+    mul-shapes
+    slice-write-shapes
     add-k
     loop-less
     loop-again

@@ -1,7 +1,7 @@
 -- `current::draw::make_rise` meets its contract.
 -- Assumes nothing.
 use Prim.Native.Nat.{_-_, _≤_}
-use mathlib.Core.Path.{_≡_}
+use mathlib.Core.Path.{_≡_, refl}
 use native.Mathlib.Omega.{arith}
 use borrow.Author.Needs.{needs}
 use Rattle.laws.specs.Rewritten.{Rewritten}
@@ -12,22 +12,25 @@ use Rattle.current.proofs.draw.make_rise.Statement.{statement}
 use Rattle.current.proofs.draw.make_rise.Tie as tie
 
 abbrev Inv-loop : tie.InvT-loop
-Inv-loop shape₀ p k₀ shape k = (k ≤ p .rise) × Rewritten (pulse (p .peak) (p .rise) (p .fall)) 0 k shape₀ shape
+Inv-loop shapes₀ place p factors k₀ shapes k = (k ≤ p .rise) × Rewritten (pulse (p .peak) (p .rise) (p .fall)) place k shapes₀ shapes
 
 abbrev μ-loop : tie.MeasureT-loop
-μ-loop shape₀ pulse k₀ shape k = pulse .rise - k
+μ-loop shapes₀ place pulse factors k₀ shapes k = pulse .rise - k
 
 loop-holds : tie.Need-loop-holds Inv-loop μ-loop
 loop-holds c = (omega arith, rewritten-none _ _ _)
 
 level-requires : tie.Need-level-requires Inv-loop μ-loop
-level-requires c κs = let range = c .before .before .before .before .pre .1 .range in (range .peak-high, omega (arith, range .rise-high))
+level-requires c κs = let range = c .before .before .before .before .pre .2 .range in (range .peak-high, omega (arith, range .rise-high))
 
-mul-shape : tie.Need-mul-shape Inv-loop μ-loop
-mul-shape c = search needs
+add-shapes : tie.Need-add-shapes Inv-loop μ-loop
+add-shapes c = search needs
 
-slice-write-shape : tie.Need-slice-write-shape Inv-loop μ-loop
-slice-write-shape c = omega (arith, c .before .before .before .loop .inv .1 .long, c .before .before .before .before .before .pre .1 .range .rise-high)
+mul-shapes : tie.Need-mul-shapes Inv-loop μ-loop
+mul-shapes c = search needs
+
+slice-write-shapes : tie.Need-slice-write-shapes Inv-loop μ-loop
+slice-write-shapes c = omega (arith, c .before .before .before .loop .inv .1 .long, c .before .before .before .before .before .pre .2 .range .rise-high)
 
 add-k : tie.Need-add-k Inv-loop μ-loop
 add-k c = search needs
@@ -40,10 +43,10 @@ loop-again c =
     let start = c .before .before .before .before .before in
     let loop = c .before .before .before .loop in
     let p = start .args .pulse in
-    let level = rise-level (start .pre .1) (loop .k) (omega arith) (c .level .ensures) in (
+    let level = rise-level (start .pre .2) (loop .k) (omega arith) (c .level .ensures) in (
       omega arith,
-      rewritten-next (pulse (p .peak) (p .rise) (p .fall)) 0 (loop .k) _ _ _ _ (omega arith)
-          (omega (arith, start .pre .0, start .pre .1 .range .rise-high)) level (loop .inv .1),
+      rewritten-next (pulse (p .peak) (p .rise) (p .fall)) (start .args .place) (loop .k) _ _ _ _ refl
+          (omega (arith, start .pre .0, start .pre .1, start .pre .2 .range .rise-high)) level (loop .inv .1),
     )
 
 same-length : tie.Need-same-length Inv-loop μ-loop
@@ -63,8 +66,9 @@ make-rise-spec =
     μ-loop
     loop-holds
     level-requires
-    mul-shape
-    slice-write-shape
+    add-shapes
+    mul-shapes
+    slice-write-shapes
     add-k
     loop-less
     loop-again

@@ -5,18 +5,17 @@ use mathlib.Core.Path.{_≡_, refl}
 use native.Mathlib.Omega.{arith}
 use borrow.Author.Needs.{needs}
 use denote.Ref.{now}
-use lib.ListN.{getD}
 use Rattle.laws.proofs.Rewritten.{rewritten-none}
 use Rattle.current.specs.Runs.{Stamped}
-use Rattle.current.proofs.Rows.{raised-append}
+use Rattle.current.proofs.Rows.{stamped-append}
 use Rattle.current.proofs.draw.stamp.Statement.{statement}
 use Rattle.current.proofs.draw.stamp.Tie as tie
 
 abbrev Inv-loop : tie.InvT-loop
-Inv-loop row₀ at shape eights n₀ row n = (n ≤ eights) × Stamped shape at (8 * n) row₀ row
+Inv-loop row₀ at shapes place eights n₀ row n = (n ≤ eights) × Stamped shapes place at (8 * n) row₀ row
 
 abbrev μ-loop : tie.MeasureT-loop
-μ-loop row₀ at shape eights n₀ row n = eights - n
+μ-loop row₀ at shapes place eights n₀ row n = eights - n
 
 loop-holds : tie.Need-loop-holds Inv-loop μ-loop
 loop-holds c = (omega arith, rewritten-none _ _ _)
@@ -29,6 +28,9 @@ add-stamp-eight c = search needs
 
 mul-stamp-eight-2 : tie.Need-mul-stamp-eight-2 Inv-loop μ-loop
 mul-stamp-eight-2 c = search needs
+
+add-stamp-eight-2 : tie.Need-add-stamp-eight-2 Inv-loop μ-loop
+add-stamp-eight-2 c = search needs
 
 stamp-eight-requires : tie.Need-stamp-eight-requires Inv-loop μ-loop
 stamp-eight-requires c κs = let loop = c .before .before .loop in (omega (arith, loop .inv .1 .long), omega arith)
@@ -44,7 +46,8 @@ loop-again c =
     let start = c .before .before .before .before .before .before .before .before in
     let loop = c .before .before .before .before .before .loop in (
       omega arith,
-      raised-append (start .args .at) (λ k. getD (now (start .args .shape)) k 0) (8 * loop .n) _ 8 (loop .inv .1) refl (c .before .before .stamp-eight .ensures) _ (omega arith),
+      stamped-append (now (start .args .shapes)) (start .args .place) (start .args .at) (8 * loop .n) _ _ 8 (loop .inv .1) refl refl
+          (c .before .before .stamp-eight .ensures) _ (omega arith),
     )
 
 same-length : tie.Need-same-length Inv-loop μ-loop
@@ -66,6 +69,7 @@ stamp-spec =
     mul-stamp-eight
     add-stamp-eight
     mul-stamp-eight-2
+    add-stamp-eight-2
     stamp-eight-requires
     add-n
     loop-less

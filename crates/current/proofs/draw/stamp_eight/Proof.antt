@@ -6,18 +6,17 @@ use native.Mathlib.Omega.{arith}
 use borrow.Author.Needs.{needs}
 use denote.Ref.{now}
 use lib.ListN.{getD}
-use Rattle.laws.specs.Rewritten.{Rewritten}
 use Rattle.laws.proofs.Rewritten.{rewritten-none}
-use Rattle.current.specs.Runs.{raisedTo}
+use Rattle.current.specs.Runs.{Stamped}
 use Rattle.current.proofs.Rows.{raised-next}
 use Rattle.current.proofs.draw.stamp_eight.Statement.{statement}
 use Rattle.current.proofs.draw.stamp_eight.Tie as tie
 
 abbrev Inv-loop : tie.InvT-loop
-Inv-loop row₀ at shape from k₀ row k = (k ≤ 8) × Rewritten (raisedTo row₀ at (λ j. getD shape (from + j) 0)) at k row₀ row
+Inv-loop row₀ at shapes place k₀ row k = (k ≤ 8) × Stamped shapes place at k row₀ row
 
 abbrev μ-loop : tie.MeasureT-loop
-μ-loop row₀ at shape from k₀ row k = 8 - k
+μ-loop row₀ at shapes place k₀ row k = 8 - k
 
 loop-holds : tie.Need-loop-holds Inv-loop μ-loop
 loop-holds c = (omega arith, rewritten-none _ _ _)
@@ -63,7 +62,7 @@ loop-again c =
     let start = c .before .before .before .before .before .before .before in
     let loop = c .before .before .before .before .loop in (
       omega arith,
-      raised-next (start .args .at) (λ j. getD (now (start .args .shape)) (start .args .from + j) 0) (loop .k) _ _ _ (loop .inv .1) refl
+      raised-next (start .args .at) (λ j. getD (now (start .args .shapes)) (start .args .place + j) 0) (loop .k) _ _ _ (loop .inv .1) refl
           (omega (arith, start .pre .0)) refl (c .max-u32 .ensures) _ refl,
     )
 
