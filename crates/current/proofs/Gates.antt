@@ -108,7 +108,7 @@ of-edges gate Q up down is-greater =
 -- A gate that is drawn from the rows of its edges, as they are read from the work buffer.
 module _ {gate : Gate} {net last : ℕ} {work words greater lower : List ℕ} (drawable : Drawable gate work net last words)
     (one : RowRead (edgeOf gate true) net work greater) (other : RowRead (edgeOf gate false) net work lower) where
-  pub fields : PulseFields gate
+  fields : PulseFields gate
   fields = record { ranges = drawable .ranges; fits = drawable .fits }
 
   pub gate-edges : GateEdges gate greater lower

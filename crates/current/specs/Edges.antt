@@ -51,7 +51,7 @@ pub record GateEdges (gate : Gate) (greater lower : List ℕ) : Type 0 where
   pub greater-from : TicksFrom (gate .delay) greater
   pub lower-from : TicksFrom (gate .delay) lower
 
--- The pulse at tick t of an edge at tick x, where the set of tick x allows that edge.
+-- The pulse at tick t of an edge at tick x, where the set of tick x allows that edge: `ticks` are the ticks whose sets do.
 unfoldable pub edgePulse : Gate → Bool → List ℕ → ℕ → ℕ → ℕ
 edgePulse gate is-greater ticks x t = cond (rowBit ticks x) (pulseAt (peakOf gate is-greater) (gate .rise) (gate .fall) (gate .delay) x t) 0
 
