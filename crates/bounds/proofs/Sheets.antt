@@ -14,10 +14,10 @@ use Rattle.laws.proofs.Below.{max-next, max-same}
 use Rattle.laws.proofs.Rewritten.{rewritten-next, rewritten-first}
 use Rattle.excitation.specs.UncertaintySet.{setsIn}
 use Rattle.block.specs.Record.{File}
-use Rattle.current.specs.Current.{Sheet, sheetWords}
-use Rattle.current.specs.Words.{Cleared}
-use Rattle.current.proofs.Sheets.{word-is, sheet-long, sheet-is}
 use Rattle.operation.specs.declared.Currents.{Currents}
+use Rattle.sheet.specs.Sheet.{Sheet, sheetWords}
+use Rattle.sheet.specs.Words.{Cleared}
+use Rattle.sheet.proofs.Sheets.{word-is, sheet-long, sheet-is}
 use Rattle.evaluation.specs.Evaluation.{simulatedSheet, envelopeSheet, sheetFor, Evaluated}
 use Rattle.evaluation.specs.declared.Setting.{Setting}
 use Rattle.simulator.specs.Simulate.{SinglesEvaluated}

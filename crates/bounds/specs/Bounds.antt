@@ -8,7 +8,7 @@ use Rattle.excitation.specs.UncertaintySet.{setsIn}
 use Rattle.excitation.specs.declared.Excitation.{Excitation}
 use Rattle.block.specs.Limits.{dropLimit}
 use Rattle.block.specs.Record.{File}
-use Rattle.current.specs.Current.{Sheet, dropOf}
+use Rattle.sheet.specs.Sheet.{Sheet, dropOf}
 use Rattle.evaluation.specs.Evaluation.{simulatedSheet, envelopeSheet}
 use Rattle.evaluation.specs.declared.Setting.{Setting}
 use Rattle.cases.specs.Case.{Case, probe, evaluationOf}

@@ -1,3 +1,3 @@
 // Cases bounded: a case made, by the drop of its probe and its upper number, and the sheet over the cases in the store.
+pub mod draw;
 pub mod make;
-pub mod sheet;

@@ -10,8 +10,8 @@ ghost use Rattle.bounds.specs.Bounds.{probeDrop, upperOf, CaseMade};
 use cases::CaseNumber;
 use cases::sets;
 use cases::store;
-use current::Word;
 use evaluation::Setting;
+use sheet::Word;
 
 // The drop of a case's probe.
 fn probe_drop(

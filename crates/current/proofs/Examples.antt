@@ -9,11 +9,12 @@ use Rattle.block.specs.Gate.{gateValue}
 use Rattle.block.specs.Kind.{kindOf}
 use Rattle.block.specs.Record.{isInput}
 use Rattle.block.specs.View.{gateOf}
+use Rattle.sheet.specs.Sheet.{dropAt, dropOf}
 use Rattle.runs.specs.Runs.{extend, runsFrom, inside, ticksInside}
 use Rattle.fill.specs.Gaps.{gapsAfter, gaps, shorter, shortest, close, closeFirst, closeShortest, closeWhile, merged}
 use Rattle.fill.specs.Fill.{holding, fillTicks, setsHolding, filled}
 use Rattle.waveform.specs.Waveform.{earlier, inputWaveform, gateFrom, pinWaveform, gateAt, gateWaveform, netWaveform, waveforms}
-use Rattle.current.specs.Current.{ticksWhere, greatestAt, gateCurrent, drawsAt, part, contactCurrent, dropAt, dropOf, transitionsOf, sheetOf}
+use Rattle.current.specs.Current.{ticksWhere, greatestAt, gateCurrent, drawsAt, part, contactCurrent, transitionsOf, sheetOf}
 use Rattle.current.specs.Examples.{CurrentExamples}
 use Rattle.current.specs.Pulse.{levelAfter, pulse, pulseAt}
 

@@ -14,6 +14,7 @@ use borrow.Table.Steps.{cases}
 use Rattle.laws.specs.Below.{maxBelow}
 use Rattle.laws.specs.Rewritten.{Rewritten}
 use Rattle.laws.proofs.Below.{max-at, max-within, max-both}
+use Rattle.sheet.specs.Words.{withRow}
 use Rattle.bits.specs.Bits.{rowBit}
 use Rattle.excitation.specs.Excitation.{hl, lh}
 use Rattle.excitation.specs.UncertaintySet.{member}
@@ -25,7 +26,6 @@ use Rattle.current.specs.Current.{Transitions, ticksWhere, greatestAt, g
 use Rattle.current.specs.Drawing.{transitionsIn, Drawable, Drawn}
 use Rattle.current.specs.Edges.{ticksOfRow, edgeOf, peakOf, PulseFields, GateEdges, edgePulse, allowedPulse, Passed, NoTick}
 use Rattle.current.specs.Pulse.{pulseAt}
-use Rattle.current.specs.Words.{withRow}
 use Rattle.current.proofs.Edges.{in-range, edge-allowed, edge-not-allowed}
 use Rattle.current.proofs.Pulses.{pulse-at-most, pulse-quiet}
 use Rattle.current.proofs.Ticks.{greatest-within, greatest-covers, greatest-at-most}

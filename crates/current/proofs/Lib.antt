@@ -1,5 +1,4 @@
 pub mod Examples
-pub mod Words
 pub mod Levels
 pub mod Pulses
 pub mod Rows
@@ -10,5 +9,3 @@ pub mod Edges
 pub mod Gates
 pub mod Contacts
 pub mod Totals
-pub mod Drops
-pub mod Sheets

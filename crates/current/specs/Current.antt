@@ -1,15 +1,15 @@
--- Currents, the sheet and the drop (document 01, "Levels and simulation").
-use Prim.Native.Nat.{ℕ, suc, _+_, _*_, _/_, _%_, max}
+-- Currents, and the sheet of a block (document 01, "Levels and simulation").
+use Prim.Native.Nat.{ℕ, suc, max}
 use mathlib.Core.Bool.{Bool, true, false, cond, _&&_, not}
 use mathlib.Core.List.{List, [], _∷_, map}
 use lib.Dec.{eqb}
-use lib.ListN.{length, getD}
-use Rattle.laws.specs.Below.{maxBelow, sumBelow}
-use Rattle.laws.specs.Turn.{listBelow}
+use lib.ListN.{getD}
+use Rattle.laws.specs.Below.{sumBelow}
 use Rattle.excitation.specs.Excitation.{hl, lh}
 use Rattle.block.specs.Record.{File, netCount, contact, isInput}
 use Rattle.block.specs.View.{gateOf}
 use Rattle.block.specs.declared.Gate.{Gate}
+use Rattle.sheet.specs.Sheet.{Sheet}
 use Rattle.waveform.specs.Waveform.{Waveform, Values, waveforms}
 use Rattle.current.specs.Pulse.{pulseAt}
 
@@ -47,22 +47,6 @@ part file transitions c t net =
 -- A contact's current at tick t: the sum over its gates.
 unfoldable pub contactCurrent : File → List Transitions → ℕ → ℕ → ℕ
 contactCurrent file transitions c t = sumBelow (netCount file) (part file transitions c t)
-
--- A sheet: the current of each contact at each tick.
-abbrev pub Sheet : Type 0
-Sheet = ℕ → ℕ → ℕ
-
--- Document 01's sheet as a buffer has it: 16 rows of 512 ticks, contact 0 first.
-unfoldable pub sheetWords : Sheet → List ℕ
-sheetWords sheet = listBelow 8192 (λ i. sheet (i / 512) (i % 512))
-
--- Document 01's drop, in nanovolts: the greatest over nodes and ticks of the sum of resistance × current. The table has a row of 16
--- resistances per bus node.
-unfoldable pub dropAt : List ℕ → Sheet → ℕ → ℕ → ℕ
-dropAt table sheet node t = sumBelow 16 (λ c. getD table (16 * node + c) 0 * sheet c t)
-
-unfoldable pub dropOf : List ℕ → Sheet → ℕ
-dropOf table sheet = maxBelow (length table / 16) (λ node. maxBelow 512 (λ t. dropAt table sheet node t))
 
 module _ (𝓥 : Values) where
   open Values 𝓥 using (Value, allows)

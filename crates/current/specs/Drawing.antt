@@ -1,24 +1,19 @@
 -- What the code's drawing of one gate does to the words of a sheet.
-use Prim.Native.Nat.{ℕ, _+_, _*_, _/_, _%_, _≤_, _<_}
+use Prim.Native.Nat.{ℕ, _+_, _/_, _%_, _≤_, _<_}
 use mathlib.Core.Bool.{false, cond}
 use mathlib.Core.List.{List}
 use mathlib.Core.Path.{_≡_}
 use lib.Dec.{eqb}
 use lib.ListN.{length, getD}
-use Rattle.laws.specs.Below.{sumBelow}
 use Rattle.excitation.specs.Excitation.{hl, lh}
 use Rattle.excitation.specs.UncertaintySet.{member}
 use Rattle.block.specs.Accepted.{InRanges}
-use Rattle.block.specs.Limits.{gateLimit, blockLimit, wordLimit}
+use Rattle.block.specs.Limits.{gateLimit, wordLimit}
 use Rattle.block.specs.View.{FieldsFit}
 use Rattle.block.specs.declared.Gate.{Gate}
 use Rattle.rows.specs.Rows.{HasRow, setIn}
 use Rattle.waveform.specs.Rows.{waveformIn}
-use Rattle.current.specs.Current.{Sheet, Transitions, ticksWhere, gateCurrent}
-
--- The sheet that some words hold.
-abbrev pub sheetIn : List ℕ → Sheet
-sheetIn words c t = getD words (512 * c + t) 0
+use Rattle.current.specs.Current.{Transitions, ticksWhere, gateCurrent}
 
 -- The transitions that the waveform of a net allows, as the work buffer has it.
 unfoldable pub transitionsIn : List ℕ → ℕ → Transitions
@@ -50,10 +45,3 @@ pub record Drawn (gate : Gate) (transitions : Transitions) (words after : List �
   pub at : (i : ℕ) → i < 8192
       → getD after i 0 ≡ getD words i 0 + cond (eqb (gate .contact) (i / 512)) (gateCurrent gate transitions (i % 512)) 0
   pub most : (t : ℕ) → gateCurrent gate transitions t ≤ gateLimit
-
--- Words of which each row is 0 from tick `stop` on, and whose rows together are no more than all gates of a block draw.
-pub record Droppable (stop : ℕ) (words : List ℕ) : Type 0 where
-  pub ticks : stop ≤ 512
-  pub long : length words ≡ 8192
-  pub quiet : (c t : ℕ) → c < 16 → stop ≤ t → t < 512 → sheetIn words c t ≡ 0
-  pub most : (t : ℕ) → t < 512 → sumBelow 16 (λ c. sheetIn words c t) ≤ blockLimit

@@ -7,8 +7,9 @@ use Rattle.laws.specs.Turn.{listBelow}
 use Rattle.excitation.specs.Excitation.{lh}
 use Rattle.block.specs.Block.{frame}
 use Rattle.block.specs.Examples.{blockF}
+use Rattle.sheet.specs.Sheet.{dropOf}
 use Rattle.waveform.specs.Waveform.{simulation, envelope}
-use Rattle.current.specs.Current.{sheetOf, dropOf}
+use Rattle.current.specs.Current.{sheetOf}
 use Rattle.current.specs.Pulse.{pulse}
 
 -- One node: resistances 2 and 1.

@@ -1,9 +1,7 @@
 pub mod Pulse
 pub mod Current
 pub mod Drawing
-pub mod Words
 pub mod Levels
 pub mod Runs
 pub mod Edges
-pub mod Sums
 pub mod Examples

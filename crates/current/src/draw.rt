@@ -5,10 +5,10 @@ ghost use Prim.Native.Nat.{_+_, _*_, _≤_, _<_};
 ghost use lib.ListN.{length};
 ghost use Rattle.current.specs.Levels.{InRange, Factored};
 ghost use Rattle.current.specs.Runs.{RiseMade, FallMade, ShapeMade, Shaped, Stamped, HeightDrawn, RunDrawn};
-use super::Word;
 use super::level::Factors;
 use super::level::Pulse;
 use super::level::level;
+use sheet::Word;
 
 // The rise of a pulse, up to before the peak, among the shapes from a place on.
 fn make_rise(shapes: &mut [Word], place: usize, pulse: Pulse, factors: Factors)

@@ -1,12 +1,11 @@
 // One gate drawn: its current made in a row, and the row added to its contact's row of the sheet.
 ghost use Prim.Native.Nat.{_+_, _≤_, _<_};
 ghost use Rattle.current.specs.Drawing.{transitionsIn, Drawable, Drawn};
-use super::Word;
 use super::edge;
 use super::pass;
-use super::sheet;
 use block::Gate;
 use block::Net;
+use sheet::Word;
 
 // The first tick at which no pulse of a gate is left.
 fn quiet_from(last: usize, delay: usize, rise: usize, fall: usize) -> usize

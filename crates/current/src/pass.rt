@@ -4,13 +4,13 @@ ghost use mathlib.Core.Path.{_≡_};
 ghost use Prim.Native.Nat.{_≤_, _<_};
 ghost use lib.ListN.{length, replicate};
 ghost use Rattle.current.specs.Edges.{PulseFields, pulseOf, placeOf, GateEdges, TicksByPeak, ShapesMade, Passed};
-use super::Word;
 use super::draw;
 use super::edge;
 use super::level;
 use super::level::Factors;
 use super::level::Pulse;
 use block::Gate;
+use sheet::Word;
 
 // The pulse of the greater peak, or of the lower.
 fn pulse_of(gate: Gate, greater: bool) -> Pulse

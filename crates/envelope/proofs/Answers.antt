@@ -22,7 +22,7 @@ use Rattle.operation.specs.declared.Currents.{Currents}
 use Rattle.operation.specs.declared.CurrentsAnswer.{CurrentsAnswer}
 use Rattle.operation.specs.declared.CurrentsAnswer.the-variants as answer
 use Rattle.operation.proofs.Operations.{operation-numbered, by-file, by-arguments}
-use Rattle.current.specs.Current.{sheetWords}
+use Rattle.sheet.specs.Sheet.{sheetWords}
 use Rattle.evaluation.specs.Evaluation.{currentsOf, Evaluated}
 use Rattle.envelope.specs.Envelope.{EnvelopeArguments, argumentChecks, envelopeVerdict, givenSheet, Enveloped}
 

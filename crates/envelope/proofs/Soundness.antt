@@ -15,11 +15,11 @@ use Rattle.excitation.proofs.OneMember.{member-single}
 use Rattle.block.specs.Block.{Choice}
 use Rattle.block.specs.Record.{File, netCount}
 use Rattle.block.specs.View.{gateOf}
+use Rattle.sheet.proofs.Drops.{drop-at-most}
 use Rattle.waveform.specs.Waveform.{Waveform, simulation, envelope, waveforms}
 use Rattle.waveform.proofs.Within.{Within, waveforms-within}
 use Rattle.current.specs.Current.{ticksWhere, gateCurrent, transitionsOf, sheetOf}
 use Rattle.current.proofs.Contacts.{contact-at-most}
-use Rattle.current.proofs.Drops.{drop-at-most}
 use Rattle.current.proofs.Gates.{current-at-most}
 use Rattle.evaluation.specs.Evaluation.{simulatedSheet, envelopeSheet}
 use Rattle.envelope.specs.Soundness.{Sound}

@@ -11,7 +11,7 @@ use Rattle.block.specs.declared.Verdict.{Verdict}
 use Rattle.operation.specs.Arguments.{hopsCheck, tableCheck, sheetCheck, workCheck}
 use Rattle.operation.specs.Operation.{answerAfter, bufferAfter, WorkAfter}
 use Rattle.operation.specs.declared.CurrentsAnswer.{CurrentsAnswer}
-use Rattle.current.specs.Current.{Sheet, sheetWords}
+use Rattle.sheet.specs.Sheet.{Sheet, sheetWords}
 use Rattle.evaluation.specs.Evaluation.{envelopeSheet, currentsOf}
 
 -- Envelope takes file, hop limit, table, sheet and work buffer, as they are lent.

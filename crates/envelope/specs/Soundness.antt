@@ -5,7 +5,7 @@ use Rattle.excitation.specs.UncertaintySet.{UncertaintySet}
 use Rattle.excitation.specs.declared.Excitation.{Excitation}
 use Rattle.block.specs.Block.{Choice}
 use Rattle.block.specs.Record.{File}
-use Rattle.current.specs.Current.{dropOf}
+use Rattle.sheet.specs.Sheet.{dropOf}
 use Rattle.evaluation.specs.Evaluation.{simulatedSheet, envelopeSheet}
 
 -- No pattern of a case draws more current at any contact and tick than the case's envelope, and none drops more, whatever the hop limit

@@ -5,11 +5,11 @@ ghost use Rattle.evaluation.specs.Evaluation.{Evaluable, Evaluated};
 ghost use Rattle.envelope.specs.Envelope.{argumentChecks, frameSheet, Enveloped};
 use block::ReadAnswer;
 use block::Verdict;
-use current::Word;
 use evaluation::Setting;
 use operation::Currents;
 use operation::CurrentsAnswer;
 use operation::arguments;
+use sheet::Word;
 
 // Checks 11, 12 and 15, in order.
 fn check_arguments(nets: usize, hops: u64, table: usize, sheet: usize, work: usize) -> Verdict

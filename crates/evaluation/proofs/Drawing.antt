@@ -24,17 +24,19 @@ use Rattle.block.specs.Record.{File, netCount, isInput}
 use Rattle.block.specs.View.{pinOf, GateRead}
 use Rattle.block.specs.declared.Gate.{Gate}
 use Rattle.block.proofs.Accepted.{arrival-at}
+use Rattle.sheet.specs.Sheet.{sheetWords, sheetIn}
+use Rattle.sheet.specs.Words.{Cleared}
+use Rattle.sheet.proofs.Totals.{total-cleared, word-within-total}
+use Rattle.sheet.proofs.Sheets.{sheet-is}
 use Rattle.rows.specs.Rows.{setIn}
 use Rattle.waveform.specs.Rows.{waveformIn, waveformsIn, arrivalIn, arrivalsIn, lastIn, latestIn, SettledRow, Ready, GateMade}
 use Rattle.waveform.specs.Waveform.{envelope, inputWaveform, gateWaveform, netWaveform, waveforms}
 use Rattle.waveform.proofs.Settles.{SwitchesWithin, firstTick, waveformOf, waveform-at, net-settles}
 use Rattle.waveform.proofs.Waveforms.{net-input, net-gate}
-use Rattle.current.specs.Current.{Transitions, ticksWhere, gateCurrent, part, contactCurrent, sheetWords, transitionsOf, sheetOf}
-use Rattle.current.specs.Drawing.{sheetIn, transitionsIn, Drawable, Drawn}
-use Rattle.current.specs.Words.{Cleared}
+use Rattle.current.specs.Current.{Transitions, ticksWhere, gateCurrent, part, contactCurrent, transitionsOf, sheetOf}
+use Rattle.current.specs.Drawing.{transitionsIn, Drawable, Drawn}
 use Rattle.current.proofs.Contacts.{part-of-gate, part-of-input}
-use Rattle.current.proofs.Sheets.{sheet-is}
-use Rattle.current.proofs.Totals.{total-cleared, total-drawn, word-within-total}
+use Rattle.current.proofs.Totals.{total-drawn}
 use Rattle.evaluation.specs.Evaluation.{HasRows, InputsMade}
 use Rattle.evaluation.proofs.Rows.{has-row, waveform-kept, arrival-kept, settled-kept}
 

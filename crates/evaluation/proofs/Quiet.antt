@@ -21,16 +21,17 @@ use Rattle.block.specs.Record.{File, netCount, isInput}
 use Rattle.block.specs.View.{gateOf, GateRead}
 use Rattle.block.specs.declared.Gate.{Gate}
 use Rattle.block.proofs.Accepted.{arrival-at}
+use Rattle.sheet.specs.Sheet.{Sheet, sheetWords, dropOf, sheetIn}
+use Rattle.sheet.specs.Sums.{Droppable}
+use Rattle.sheet.proofs.Totals.{drop-below}
+use Rattle.sheet.proofs.Drops.{drop-same}
+use Rattle.sheet.proofs.Sheets.{sheet-at}
 use Rattle.waveform.specs.Waveform.{envelope}
 use Rattle.waveform.proofs.Settles.{waveformOf, net-settles}
-use Rattle.current.specs.Current.{gateCurrent, part, contactCurrent, transitionsOf, sheetOf, Sheet, sheetWords, dropOf}
-use Rattle.current.specs.Drawing.{sheetIn, Droppable}
+use Rattle.current.specs.Current.{gateCurrent, part, contactCurrent, transitionsOf, sheetOf}
 use Rattle.current.proofs.Contacts.{part-of-gate, part-of-input}
-use Rattle.current.proofs.Drops.{drop-same}
 use Rattle.current.proofs.Gates.{current-quiet}
-use Rattle.current.proofs.Sheets.{sheet-at}
 use Rattle.current.proofs.Ticks.{ticks-at-most}
-use Rattle.current.proofs.Totals.{drop-below}
 use Rattle.evaluation.specs.Evaluation.{envelopeSheet, quietTick, sheetFor, BlockDrawn, Evaluated}
 use Rattle.evaluation.specs.declared.Setting.{Setting}
 use Rattle.evaluation.proofs.Drawing.{transitionsFrom, net-transitions}

@@ -10,10 +10,10 @@ use Rattle.block.specs.Accepted.{AcceptedFile}
 use Rattle.block.specs.Block.{settlingTick, switchingTick}
 use Rattle.block.specs.Limits.{blockLimit, dropLimit}
 use Rattle.block.specs.Record.{File}
+use Rattle.sheet.specs.Sheet.{Sheet, sheetWords, dropOf, sheetIn}
 use Rattle.waveform.specs.Rows.{waveformIn, arrivalIn, SettledRow}
 use Rattle.waveform.specs.Waveform.{simulation, envelope, inputWaveform}
-use Rattle.current.specs.Current.{Sheet, sheetOf, sheetWords, dropOf}
-use Rattle.current.specs.Drawing.{sheetIn}
+use Rattle.current.specs.Current.{sheetOf}
 use Rattle.operation.specs.declared.Currents.{Currents}
 use Rattle.evaluation.specs.declared.Setting.{Setting}
 

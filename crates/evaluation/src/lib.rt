@@ -8,8 +8,8 @@ use block::Gate;
 use block::Net;
 use block::record;
 use block::view;
-use current::Word;
 use operation::Currents;
+use sheet::Word;
 
 // The counts of a block and the hop limit, which every evaluation of a call takes.
 pub struct Setting {
@@ -45,7 +45,7 @@ fn draw(file: &[u8], setting: Setting, codes: &[u8], sheet: &mut [Word], work: &
     ensures { λ r. ⌜ BlockDrawn (now (file .entry)) setting (now (codes .entry)) r (now (sheet .exit)) ⌝ }
 {
     let joins = excitation::joins();
-    current::clear(sheet);
+    sheet::clear(sheet);
     make_inputs(file, codes, setting.inputs, work);
     let mut settling: usize = 0;
     let mut net = setting.inputs;
@@ -73,7 +73,7 @@ pub fn evaluate(
     ensures { λ r. ⌜ Evaluated (now (file .entry)) (now (table .entry)) (sheetFor (now (file .entry)) setting (now (codes .entry))) r (now (sheet .exit)) ⌝ }
 {
     let settling = draw(file, setting, codes, sheet, work);
-    let drop = current::greatest_drop(table, sheet, settling + 1);
+    let drop = sheet::greatest_drop(table, sheet, settling + 1);
     Currents {
         drop,
         quiet: settling as u64,

@@ -17,12 +17,13 @@ use Rattle.block.specs.Verdict.{verdict}
 use Rattle.block.specs.View.{gateOf}
 use Rattle.block.specs.declared.Verdict.the-variants.{Accepted}
 use Rattle.block.proofs.Examples.{block-examples}
+use Rattle.sheet.specs.Sheet.{dropAt, dropOf}
 use Rattle.runs.specs.Runs.{extend, runsFrom, inside, ticksInside}
 use Rattle.fill.specs.Fill.{holding, fillTicks, setsHolding, filled}
 use Rattle.fill.specs.Gaps.{gapsAfter, gaps, shorter, shortest, close, closeFirst, closeShortest, closeWhile, merged}
 use Rattle.fill.proofs.Examples.{fill-examples}
 use Rattle.waveform.specs.Waveform.{earlier, inputWaveform, gateFrom, pinWaveform, gateAt, gateWaveform, netWaveform, waveforms}
-use Rattle.current.specs.Current.{ticksWhere, greatestAt, gateCurrent, drawsAt, part, contactCurrent, dropAt, dropOf, transitionsOf, sheetOf}
+use Rattle.current.specs.Current.{ticksWhere, greatestAt, gateCurrent, drawsAt, part, contactCurrent, transitionsOf, sheetOf}
 use Rattle.current.specs.Examples.{tableF}
 use Rattle.current.specs.Pulse.{levelAfter, pulse, pulseAt}
 use Rattle.current.proofs.Examples.{current-examples}

@@ -9,10 +9,10 @@ ghost use Rattle.program.specs.Lines.{line, written, Printed};
 ghost use Rattle.program.specs.Program.{outcomeWord, refusalText, foundWords, patternWords, searchText, programText};
 use block::ReadAnswer;
 use block::Refusal;
-use current::Word;
 use operation::Found;
 use operation::Outcome;
 use operation::SearchAnswer;
+use sheet::Word;
 
 mod lines;
 

@@ -24,8 +24,8 @@ use Rattle.operation.specs.declared.CurrentsAnswer.the-variants as currents
 use Rattle.operation.specs.declared.Found.{Found}
 use Rattle.operation.specs.declared.SearchAnswer.the-variants as answer
 use Rattle.operation.proofs.Patterns.{pattern-chosen}
-use Rattle.current.specs.Current.{sheetWords, dropOf}
-use Rattle.current.proofs.Sheets.{words-at-most}
+use Rattle.sheet.specs.Sheet.{sheetWords, dropOf}
+use Rattle.sheet.proofs.Sheets.{words-at-most}
 use Rattle.evaluation.specs.Evaluation.{simulatedSheet, envelopeSheet, quietTick, currentsOf}
 use Rattle.envelope.proofs.Soundness.{soundness}
 use Rattle.cases.specs.Choice.{coneSizes}

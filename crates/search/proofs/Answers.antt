@@ -16,12 +16,12 @@ use Rattle.block.specs.declared.ReadAnswer.the-variants as read-answer
 use Rattle.block.specs.declared.Refusal.{Refusal}
 use Rattle.block.specs.declared.Verdict.{Verdict}
 use Rattle.block.specs.declared.Verdict.the-variants as verdict-is
-use Rattle.current.specs.Current.{sheetWords}
 use Rattle.operation.specs.Operation.{bufferAfter, WorkAfter}
 use Rattle.operation.specs.declared.Found.{Found}
 use Rattle.operation.specs.declared.SearchAnswer.{SearchAnswer}
 use Rattle.operation.specs.declared.SearchAnswer.the-variants as answer
 use Rattle.operation.proofs.Operations.{by-file, by-arguments}
+use Rattle.sheet.specs.Sheet.{sheetWords}
 use Rattle.evaluation.specs.declared.Setting.{Setting}
 use Rattle.cases.specs.Records.{casesIn}
 use Rattle.cases.specs.Search.{searchFrom, search}

@@ -14,7 +14,7 @@ use Rattle.operation.specs.Operation.{bufferAfter, WorkAfter}
 use Rattle.operation.specs.declared.Found.{Found}
 use Rattle.operation.specs.declared.SearchAnswer.{SearchAnswer}
 use Rattle.operation.specs.declared.SearchAnswer.the-variants as answer
-use Rattle.current.specs.Current.{sheetWords}
+use Rattle.sheet.specs.Sheet.{sheetWords}
 use Rattle.cases.specs.Case.{Case}
 use Rattle.cases.specs.Choice.{coneSizes, chosenInput}
 use Rattle.cases.specs.Search.{SearchEnd, greatestUpper, search}

@@ -10,7 +10,7 @@ use Rattle.excitation.specs.UncertaintySet.{member, code, decode, single}
 use Rattle.block.specs.Block.{frame, coneSize}
 use Rattle.block.specs.Limits.{dropLimit}
 use Rattle.block.specs.Record.{File}
-use Rattle.current.specs.Current.{sheetWords}
+use Rattle.sheet.specs.Sheet.{sheetWords}
 use Rattle.cases.specs.Records.{casesIn, HasCases}
 use Rattle.cases.specs.Search.{Best, State, SearchEnd, greatestUpper, firstState, nextSplit, split, searchFrom}
 use Rattle.cases.specs.Store.{storeWith, patternWith}

@@ -7,14 +7,14 @@ ghost use Rattle.search.specs.Search.{Searched};
 ghost use Rattle.search.specs.Steps.{FirstMade, BlockSearched};
 use block::ReadAnswer;
 use block::Verdict;
+use bounds::draw;
 use bounds::make;
-use bounds::sheet;
 use cases::CaseNumber;
 use cases::choice;
-use current::Word;
 use evaluation::Setting;
 use operation::Found;
 use operation::SearchAnswer;
+use sheet::Word;
 
 mod arguments;
 mod run;
@@ -92,7 +92,7 @@ fn search_block(
         work,
         store,
     );
-    sheet::draw_cases(
+    draw::draw_cases(
         file,
         setting,
         table,

@@ -8,10 +8,10 @@ ghost use Rattle.bounds.specs.Bounds.{simulatedDrop};
 ghost use Rattle.search.specs.Steps.{Running, Cones, stateIn, Ran};
 use super::split;
 use cases::store;
-use current::Word;
 use evaluation::Setting;
 use operation::Found;
 use operation::Outcome;
+use sheet::Word;
 
 // What a search found, with so many cases in the store.
 fn ended(outcome: Outcome, upper: u64, lower: u64, splits: u64, cases: usize) -> Found

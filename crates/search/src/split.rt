@@ -15,9 +15,9 @@ use cases::CaseNumber;
 use cases::choice;
 use cases::sets;
 use cases::store;
-use current::Word;
 use evaluation::Setting;
 use excitation::Set;
+use sheet::Word;
 
 // The codes of a child's sets: those of its parent, but for the input that is split, whose set has the excitation of byte e alone.
 fn child_codes(parent: &[u8], input: Net, e: u8) -> [u8; 64]

@@ -23,7 +23,7 @@ use Rattle.operation.specs.declared.CurrentsAnswer.{CurrentsAnswer}
 use Rattle.operation.specs.declared.CurrentsAnswer.the-variants as answer
 use Rattle.operation.proofs.Operations.{operation-numbered, by-file, by-arguments}
 use Rattle.operation.proofs.Patterns.{bytes-numbered}
-use Rattle.current.specs.Current.{sheetWords}
+use Rattle.sheet.specs.Sheet.{sheetWords}
 use Rattle.evaluation.specs.Evaluation.{currentsOf, Evaluated}
 use Rattle.simulator.specs.Simulate.{SimulateArguments, sizeChecks, simulateVerdict, givenSheet, Simulated}
 

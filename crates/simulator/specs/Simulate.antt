@@ -16,7 +16,7 @@ use Rattle.operation.specs.Operation.{answerAfter, bufferAfter, WorkAfter}
 use Rattle.operation.specs.Pattern.{byteChecks}
 use Rattle.operation.specs.declared.Currents.{Currents}
 use Rattle.operation.specs.declared.CurrentsAnswer.{CurrentsAnswer}
-use Rattle.current.specs.Current.{Sheet, sheetWords}
+use Rattle.sheet.specs.Sheet.{Sheet, sheetWords}
 use Rattle.evaluation.specs.Evaluation.{simulatedSheet, currentsOf, Evaluated}
 use Rattle.evaluation.specs.declared.Setting.{Setting}
 

@@ -10,12 +10,12 @@ ghost use Rattle.evaluation.specs.Evaluation.{InputCodes, Evaluable, Evaluated}
 ghost use Rattle.simulator.specs.Simulate.{sizeChecks, patternSheet, PatternCodes, SinglesEvaluated, Simulated};
 use block::ReadAnswer;
 use block::Verdict;
-use current::Word;
 use evaluation::Setting;
 use operation::Currents;
 use operation::CurrentsAnswer;
 use operation::arguments;
 use operation::pattern;
+use sheet::Word;
 
 // More hops than 256 ticks can have runs: nothing is filled.
 const UNLIMITED: usize = 128;

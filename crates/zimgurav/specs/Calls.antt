@@ -10,7 +10,7 @@ use Rattle.operation.specs.declared.SearchAnswer.{SearchAnswer}
 use Rattle.bench.specs.Bench.{BenchArguments, benchRecords, benchVerdict, benchAnswerAfter, overlaid}
 use Rattle.bench.specs.declared.BenchAnswer.{BenchAnswer}
 use Rattle.bench.specs.declared.BenchAnswer.the-variants as bench-answer
-use Rattle.current.specs.Current.{sheetWords}
+use Rattle.sheet.specs.Sheet.{sheetWords}
 use Rattle.simulator.specs.Simulate as simulate
 use Rattle.envelope.specs.Envelope as envelope
 use Rattle.search.specs.Search.{SearchArguments, Searched}

@@ -6,10 +6,10 @@ ghost use Rattle.zimgurav.specs.Calls.{version, benchNumbers, BenchCalle
 use bench::BenchAnswer;
 use block::ReadAnswer;
 use block::Refusal;
-use current::Word;
 use operation::CurrentsAnswer;
 use operation::Outcome;
 use operation::SearchAnswer;
+use sheet::Word;
 
 // A refusal as eight numbers.
 fn refusal_numbers(r: Refusal) -> [u64; 8]

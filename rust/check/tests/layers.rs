@@ -36,7 +36,7 @@ struct Named {
 }
 
 /// All that the search cites of the crates inside which it may not look.
-const CITED: [Named; 14] = [
+const CITED: [Named; 11] = [
     Named {
         module: "evaluation.specs.Evaluation",
         names: &["simulatedSheet", "envelopeSheet"],
@@ -83,34 +83,19 @@ const CITED: [Named; 14] = [
         why: "The soundness law, on which the search rests.",
     },
     Named {
-        module: "current.specs.Current",
-        names: &["Sheet", "sheetWords", "dropOf"],
-        why: "The type of a sheet, its words in a buffer and its drop, the last two shut.",
-    },
-    Named {
-        module: "current.specs.Words",
-        names: &["Cleared"],
-        why: "The record of what `current::clear` promises: every word is 0.",
-    },
-    Named {
-        module: "current.proofs.Sheets",
-        names: &["word-is", "sheet-long", "sheet-is", "words-at-most"],
-        why: "Laws of the words of any sheet, whatever it is the sheet of.",
-    },
-    Named {
         module: "evaluation::",
         names: &["evaluate", "Setting"],
         why: "The code of an evaluation, called by contract, and the struct that it takes.",
     },
     Named {
-        module: "simulator::, current::",
-        names: &["evaluate_singles", "clear", "Word"],
-        why: "The simulation of a pattern and the clearing of the sheet, called by contract, and the type of its words.",
+        module: "simulator::",
+        names: &["evaluate_singles"],
+        why: "The simulation of a pattern, called by contract.",
     },
 ];
 
 /// The abbreviations among them, which open by themselves, and why that shows nothing inside.
-const ABBREVIATIONS: [(&[&str], &str); 4] = [
+const ABBREVIATIONS: [(&[&str], &str); 3] = [
     (
         &[
             "simulatedSheet",
@@ -120,10 +105,6 @@ const ABBREVIATIONS: [(&[&str], &str); 4] = [
             "givenSheet",
         ],
         "They open to `sheetOf`, which stays shut.",
-    ),
-    (
-        &["Sheet"],
-        "It opens to the type of functions from contact and tick to a number.",
     ),
     (
         &["currentsOf"],
@@ -425,8 +406,8 @@ fn abbreviations_show_nothing_inside() {
     }
     for (module, shut) in [
         ("current.specs.Current", "sheetOf"),
-        ("current.specs.Current", "sheetWords"),
-        ("current.specs.Current", "dropOf"),
+        ("sheet.specs.Sheet", "sheetWords"),
+        ("sheet.specs.Sheet", "dropOf"),
         ("evaluation.specs.Evaluation", "quietTick"),
     ] {
         assert_eq!(

@@ -1,0 +1,4 @@
+pub mod Words
+pub mod Totals
+pub mod Drops
+pub mod Sheets
