@@ -98,9 +98,9 @@ static int check_search(const char *name, uint64_t ratio, uint64_t budget, const
 
 int main(void)
 {
-    const uint64_t exact[NUMBERS] = {0, ZIMGURAV_EXACT, 10, 10, 1, 4};
-    const uint64_t within[NUMBERS] = {0, ZIMGURAV_WITHIN, 20, 10, 0, 1};
-    const uint64_t spent[NUMBERS] = {0, ZIMGURAV_SPENT, 20, 10, 0, 1};
+    const uint64_t exact[NUMBERS] = {0, ZIMGURAV_EXACT, 10, 10, 1, 4, 1};
+    const uint64_t within[NUMBERS] = {0, ZIMGURAV_WITHIN, 20, 10, 0, 1, 1};
+    const uint64_t spent[NUMBERS] = {0, ZIMGURAV_SPENT, 20, 10, 0, 1, 1};
     const uint64_t budget[NUMBERS] = {ZIMGURAV_REFUSED_BUDGET};
     const uint8_t whole_frame[][2] = {{15, 20}};
     const uint8_t l_h_hl_lh[][2] = {{1, 0}, {2, 0}, {4, 10}, {8, 10}};

@@ -45,7 +45,7 @@ extern "C" {
 
 /* The version of the calls. It goes up with every change of what a call takes, answers or writes: two builds of one
  * version give the same answers, sheets, patterns, stores and records. */
-#define ZIMGURAV_VERSION 2
+#define ZIMGURAV_VERSION 3
 
 /* The version of the linked library, which has to be ZIMGURAV_VERSION. */
 uint64_t zimgurav_version(void);
@@ -166,7 +166,8 @@ void zimgurav_read(
     uint64_t answer[ZIMGURAV_ANSWER_NUMBERS]);
 
 /* Writes a ceiling on the current of each contact at each tick into the sheet. Refusals 1 to 12 and 15.
- * Accepted: answer[1] drop in nanovolts, answer[2] the quiet tick, after which every row of the sheet is 0.
+ * Accepted: answer[1] drop in nanovolts, answer[2] the quiet tick: the last tick at which some row of the sheet is not
+ * 0, and 0 where the whole sheet is 0.
  */
 void zimgurav_envelope(
     const uint8_t *file, size_t file_length,    /* the block file */
@@ -177,7 +178,8 @@ void zimgurav_envelope(
     uint64_t answer[ZIMGURAV_ANSWER_NUMBERS]);
 
 /* Writes the current of each contact at each tick under one pattern into the sheet. Refusals 1 to 10, 12, 15 and 16.
- * Accepted: answer[1] drop in nanovolts, answer[2] the quiet tick, after which every row of the sheet is 0.
+ * Accepted: answer[1] drop in nanovolts, answer[2] the quiet tick: the last tick at which some row of the sheet is not
+ * 0, and 0 where the whole sheet is 0.
  *
  * Byte i of a pattern is the excitation of input net i. Bytes past the inputs are not read.
  */
@@ -192,7 +194,8 @@ void zimgurav_simulate(
 /* Searches, best first, for bounds on the greatest drop of any pattern of the block. Refusals 1 to 15. Writes a
  * ceiling on the current of each contact at each tick into the sheet, and a pattern that drops the lower bound.
  * Accepted: answer[1] outcome, answer[2] upper and answer[3] lower bound in nanovolts, answer[4] how many cases were
- * split, answer[5] how many cases the store holds.
+ * split, answer[5] how many cases the store holds, answer[6] the quiet tick: the last tick at which some row of the
+ * sheet is not 0, and 0 where the whole sheet is 0. No pattern of the block draws current after it.
  *
  * A case in the store is 64 bytes with the set of each input, 0 past the inputs, then its upper number, 8 bytes, low
  * first. A set is a sum of 1 (l), 2 (h), 4 (hl), 8 (lh).

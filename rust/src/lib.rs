@@ -33,7 +33,7 @@ pub struct Counts {
 pub struct Currents {
     /// The greatest drop of a bus node at a tick, in nanovolts.
     pub drop: u64,
-    /// A tick after which every row of the sheet is 0.
+    /// The quiet tick: the last tick at which some row of the sheet is not 0; 0 for an empty sheet.
     pub quiet: u64,
 }
 
@@ -71,6 +71,9 @@ pub struct Found {
     pub splits: u64,
     /// How many cases the store holds.
     pub cases: u64,
+    /// The quiet tick: the last tick at which some row of the sheet is not 0; 0 for an empty sheet.
+    /// No pattern of the block draws current after it.
+    pub quiet: u64,
 }
 
 /// Why a call was refused. No lent buffer was changed.
@@ -218,7 +221,7 @@ pub fn search(
     work: &mut [u8],
     store: &mut [u8],
 ) -> Result<Found, Refusal> {
-    let [outcome, upper, lower, splits, cases, ..] = values(|answer| {
+    let [outcome, upper, lower, splits, cases, quiet, ..] = values(|answer| {
         // SAFETY: each pointer is of a slice or the answer and good for its length, and what may be
         // changed is lent to this call alone.
         unsafe {
@@ -253,6 +256,7 @@ pub fn search(
         lower,
         splits,
         cases,
+        quiet,
     })
 }
 

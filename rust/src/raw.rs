@@ -26,7 +26,8 @@ unsafe extern "C" {
     /// As the [module](self) says.
     pub fn zimgurav_read(file: *const u8, file_length: usize, answer: *mut Answer);
 
-    /// Writes the envelope of a block into the sheet. Accepted: 0, drop, quiet tick, then 0.
+    /// Writes the envelope of a block into the sheet. Accepted: 0, drop, quiet tick (the last at
+    /// which some row of the sheet is not 0; 0 for an empty sheet), then 0.
     ///
     /// # Safety
     ///
@@ -45,7 +46,7 @@ unsafe extern "C" {
     );
 
     /// Writes the currents of a block under a pattern into the sheet. Accepted: 0, drop, quiet
-    /// tick, then 0.
+    /// tick (as of an envelope), then 0.
     ///
     /// # Safety
     ///
@@ -65,7 +66,7 @@ unsafe extern "C" {
     );
 
     /// Searches for bounds on the greatest drop. Accepted: 0, outcome (0 exact, 1 within, 2
-    /// spent), upper bound, lower bound, splits, cases, then 0.
+    /// spent), upper bound, lower bound, splits, cases, quiet tick (as of an envelope), then 0.
     ///
     /// # Safety
     ///

@@ -2,13 +2,16 @@
 //! beside the second implementation too.
 //!
 //! Built by `run`, which says where the yardstick is. The argument is the folder of its blocks.
+//!
+//! What is timed has to agree in everything but the quiet tick, as [`compared`] says.
 
 use std::env;
 use std::path::Path;
 
 use baseline::fast;
 use check::implementation::{Implementation, LIBRARY, SECOND};
-use check::measure::{bench_block, compare, compare_searches, full_blocks};
+use check::measure::{bench_block, compare_operation, compare_searches, full_blocks};
+use check::sample::Arguments;
 use zimgurav::{Counts, Currents, Found, Outcome, Refusal, Word};
 
 /// Bench is not timed here.
@@ -76,7 +79,8 @@ fn counts(counts: baseline::Counts) -> Counts {
     }
 }
 
-/// The yardstick's answer to Envelope and Simulate, in the library's type.
+/// The yardstick's answer to Envelope and Simulate, in the library's type. Its quiet tick is an older number: where
+/// the last pulse of any gate could end.
 fn currents(currents: baseline::Currents) -> Currents {
     Currents {
         drop: currents.drop,
@@ -84,7 +88,7 @@ fn currents(currents: baseline::Currents) -> Currents {
     }
 }
 
-/// The yardstick's answer to Search, in the library's type.
+/// The yardstick's answer to Search, in the library's type. It has no quiet tick.
 fn found(answer: baseline::Answer) -> Found {
     Found {
         outcome: match answer.outcome {
@@ -96,6 +100,7 @@ fn found(answer: baseline::Answer) -> Found {
         lower: answer.lower,
         splits: answer.splits,
         cases: answer.cases,
+        quiet: 0,
     }
 }
 
@@ -107,15 +112,49 @@ fn refusal(refusal: baseline::Refusal) -> Refusal {
     }
 }
 
+/// The operations as they are compared: with no quiet tick in the answer, since the yardstick's is not the library's.
+/// The sheets are compared whole.
+mod compared {
+    use super::*;
+
+    pub fn envelope(each: &Implementation, lent: &mut Arguments) -> Result<Currents, Refusal> {
+        each.envelope(lent).map(without_quiet)
+    }
+
+    pub fn simulate(each: &Implementation, lent: &mut Arguments) -> Result<Currents, Refusal> {
+        each.simulate(lent).map(without_quiet)
+    }
+
+    pub fn search(each: &Implementation, lent: &mut Arguments) -> Result<Found, Refusal> {
+        let found = each.search(lent)?;
+        Ok(Found { quiet: 0, ..found })
+    }
+
+    fn without_quiet(currents: Currents) -> Currents {
+        Currents {
+            quiet: 0,
+            ..currents
+        }
+    }
+}
+
+/// Times Envelope and Simulate of the three.
+fn compare(name: &str, arguments: &Arguments) {
+    let all = [LIBRARY, SECOND, YARDSTICK];
+    let (envelope, simulate) = (format!("envelope, {name}"), format!("simulate, {name}"));
+    compare_operation(&envelope, compared::envelope, arguments, &all);
+    compare_operation(&simulate, compared::simulate, arguments, &all);
+}
+
 fn main() {
     let folder = env::args_os()
         .nth(1)
         .expect("the folder of the yardstick's blocks");
     let bench_block = bench_block(Path::new(&folder));
-    let implementations = [LIBRARY, SECOND, YARDSTICK];
-    compare("bench.blk", &bench_block, &implementations);
+    compare("bench.blk", &bench_block);
     for (name, arguments) in full_blocks() {
-        compare(name, &arguments, &implementations);
+        compare(name, &arguments);
     }
-    compare_searches("bench.blk", &bench_block, &BUDGETS, &[LIBRARY, YARDSTICK]);
+    let (call, pair) = (compared::search, [LIBRARY, YARDSTICK]);
+    compare_searches("bench.blk", call, &bench_block, &BUDGETS, &pair);
 }

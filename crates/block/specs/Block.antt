@@ -1,5 +1,5 @@
 -- What is made of a block's records: arrivals and the frame (document 01, "The block file"), the fan-out cone of an input ("Search")
--- and the settling tick (for the quiet tick of "Envelope").
+-- and the settling tick (the quiet tick of "Envelope", in whose place request 3 puts one by the sheet).
 use Prim.Native.Nat.{ℕ, _+_, _-_, _*_}
 use mathlib.Core.Bool.{Bool, false, cond, _||_}
 use mathlib.Core.List.{List, [], _∷_, Forall₂}

@@ -36,11 +36,11 @@ probe-codes {inputs} codes {given} {singles} room written = record {
   low = λ net h. subst (λ x. x < 16) (sym (rewritten-first _ inputs given singles written net h)) (code-below _);
 }
 
-pub probe-simulated : {file : File} {table given singles words : List ℕ} {answer : Currents} (setting : Setting) (codes : List ℕ)
+pub probe-simulated : (file : File) {table given singles words : List ℕ} {answer : Currents} (setting : Setting) (codes : List ℕ)
     → Rewritten (λ net. code (single (firstAllowed (decode (getD codes net 0))))) 0 (setting .inputs) given singles
     → SinglesEvaluated file setting singles table answer words
     → (answer .drop ≡ probeDrop file setting table codes) × (answer .drop < dropLimit)
-probe-simulated setting codes written e =
+probe-simulated file setting codes written e =
     let is = e _ (probe-sets (setting .inputs) codes written) in
     (ap (λ (c : Currents). c .drop) (is .answered), is .low)
 
@@ -53,7 +53,7 @@ module _ (file : File) (setting : Setting) (table codes : List ℕ) {r : Bool} (
   upper-simulated t e low =
       (e ∙ sym (evaluation-decided (simulatedDrop file table) (envelopeDrop file (setting .hops) table) (setsIn (setting .inputs) codes) (sym test ∙ t)), low)
 
-  pub upper-enveloped : {sheet : List ℕ} {currents : Currents} → r ≡ false → Evaluated file table (sheetFor file setting codes) currents sheet
+  pub upper-enveloped : {sheet : List ℕ} {currents : Currents} → r ≡ false → Evaluated table (sheetFor file setting codes) currents sheet
       → (currents .drop ≡ upperOf file setting table codes) × (currents .drop < dropLimit)
   unfolding ownUpper
   upper-enveloped t e = (

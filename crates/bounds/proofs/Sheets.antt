@@ -48,7 +48,7 @@ module _ (file : File) (setting : Setting) (few : setting .inputs ≤ 64) (store
       e _ (decided-sets (setting .inputs) codes coded d) .written
       ∙ ap sheetWords (sym (evaluation-decided (simulatedSheet file) (envelopeSheet (setting .hops) file) (setsIn (setting .inputs) codes) d) ∙ case-copied)
 
-  pub case-enveloped : {table sheet : List ℕ} {currents : Currents} → r ≡ false → Evaluated file table (sheetFor file setting codes) currents sheet
+  pub case-enveloped : {table sheet : List ℕ} {currents : Currents} → r ≡ false → Evaluated table (sheetFor file setting codes) currents sheet
       → sheet ≡ sheetWords (sheetOfCase file (setting .hops) (setting .inputs) store k)
   case-enveloped t e =
       e .written

@@ -1,7 +1,7 @@
 -- The examples of pulses and of block F, by evaluation.
 -- Assumes nothing.
 use mathlib.Core.Path.{refl}
-use Rattle.laws.specs.Below.{maxBelow, sumBelow, countBelow}
+use Rattle.laws.specs.Below.{anyBelow, maxBelow, lastBelow, sumBelow, countBelow}
 use Rattle.laws.specs.Turn.{inTurn, listBelow}
 use Rattle.excitation.specs.UncertaintySet.{member, decode, joinSets, each}
 use Rattle.block.specs.Block.{switchingTick, inputsBelow, frame}
@@ -9,7 +9,7 @@ use Rattle.block.specs.Gate.{gateValue}
 use Rattle.block.specs.Kind.{kindOf}
 use Rattle.block.specs.Record.{isInput}
 use Rattle.block.specs.View.{gateOf}
-use Rattle.sheet.specs.Sheet.{dropAt, dropOf}
+use Rattle.sheet.specs.Sheet.{dropAt, dropOf, flowsAt, quietTick}
 use Rattle.runs.specs.Runs.{extend, runsFrom, inside, ticksInside}
 use Rattle.fill.specs.Gaps.{gapsAfter, gaps, shorter, shortest, close, closeFirst, closeShortest, closeWhile, merged}
 use Rattle.fill.specs.Fill.{holding, fillTicks, setsHolding, filled}
@@ -19,7 +19,7 @@ use Rattle.current.specs.Examples.{CurrentExamples}
 use Rattle.current.specs.Pulse.{levelAfter, pulse, pulseAt}
 
 pub current-examples : CurrentExamples
-unfolding maxBelow sumBelow countBelow inTurn listBelow member decode joinSets each isInput gateOf kindOf gateValue switchingTick inputsBelow frame extend runsFrom gapsAfter gaps shorter shortest close closeFirst closeShortest closeWhile merged inside holding ticksInside fillTicks setsHolding filled earlier inputWaveform gateFrom pinWaveform gateAt gateWaveform netWaveform waveforms levelAfter pulse pulseAt ticksWhere greatestAt gateCurrent drawsAt part contactCurrent dropAt dropOf transitionsOf sheetOf
+unfolding anyBelow maxBelow lastBelow sumBelow countBelow inTurn listBelow member decode joinSets each isInput gateOf kindOf gateValue switchingTick inputsBelow frame extend runsFrom gapsAfter gaps shorter shortest close closeFirst closeShortest closeWhile merged inside holding ticksInside fillTicks setsHolding filled earlier inputWaveform gateFrom pinWaveform gateAt gateWaveform netWaveform waveforms levelAfter pulse pulseAt ticksWhere greatestAt gateCurrent drawsAt part contactCurrent dropAt dropOf flowsAt quietTick transitionsOf sheetOf
 current-examples = record {
   pulse-31 = refl;
   pulse-7 = λ f. refl;
@@ -28,4 +28,6 @@ current-examples = record {
   both-lh = refl;
   envelope-drop = refl;
   simulated-drop = refl;
+  envelope-quiet = refl;
+  simulated-quiet = refl;
 }

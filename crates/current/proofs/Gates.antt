@@ -3,7 +3,7 @@
 use Prim.Native.Nat.{ℕ, _+_, _*_, _/_, _%_, _≤_, _<_, max, min}
 use mathlib.Core.Bool.{Bool, true, false, cond, false≢true}
 use mathlib.Core.List.{List, List·Memᴰ, Forall₂}
-use mathlib.Core.Logic.{inl, inr}
+use mathlib.Core.Logic.{_⊎_, inl, inr, ⊎-elim}
 use mathlib.Core.Path.{_≡_, sym, ap, ap₂, subst, _∙_}
 use native.Mathlib.Nat.{le-antisymm, max-le, max-comm}
 use native.Mathlib.Omega.{arith}
@@ -27,24 +27,36 @@ use Rattle.current.specs.Drawing.{transitionsIn, Drawable, Drawn}
 use Rattle.current.specs.Edges.{ticksOfRow, edgeOf, peakOf, PulseFields, GateEdges, edgePulse, allowedPulse, Passed, NoTick}
 use Rattle.current.specs.Pulse.{pulseAt}
 use Rattle.current.proofs.Edges.{in-range, edge-allowed, edge-not-allowed}
-use Rattle.current.proofs.Pulses.{pulse-at-most, pulse-quiet}
+use Rattle.current.proofs.Pulses.{pulse-at-most, pulse-waits, pulse-quiet}
 use Rattle.current.proofs.Ticks.{greatest-within, greatest-covers, greatest-at-most}
 use Rattle.current.proofs.Transitions.{held-tick, tick-held, read-at-most, read-from, transitions-read}
 
--- A gate draws nothing once the pulses of its last transition have ended.
+-- A gate draws nothing where no pulse of its transitions does.
+current-none : (gate : Gate) (transitions : Transitions) (t : ℕ)
+    → ((P x : ℕ) → List·Memᴰ x (transitions .rises) ⊎ List·Memᴰ x (transitions .falls) → pulseAt P (gate .rise) (gate .fall) (gate .delay) x t ≡ 0)
+    → gateCurrent gate transitions t ≡ 0
+unfolding gateCurrent
+current-none gate transitions t none =
+    let up = greatest-within (λ x. pulseAt (gate .peaks .lh) (gate .rise) (gate .fall) (gate .delay) x t) (transitions .rises) 0
+    (λ x m. rw (none (gate .peaks .lh) x (inl m)) (omega arith)) in
+    let down = greatest-within (λ x. pulseAt (gate .peaks .hl) (gate .rise) (gate .fall) (gate .delay) x t) (transitions .falls) 0
+    (λ x m. rw (none (gate .peaks .hl) x (inr m)) (omega arith)) in
+    omega arith
+
+-- So it draws nothing up to the start of its first transition's pulse, and nothing once the pulses of its last have ended.
+
+pub current-waits : (gate : Gate) (transitions : Transitions) (a t : ℕ) → ((x : ℕ) → List·Memᴰ x (transitions .rises) → a ≤ x)
+    → ((x : ℕ) → List·Memᴰ x (transitions .falls) → a ≤ x) → t + gate .delay ≤ a → gateCurrent gate transitions t ≡ 0
+current-waits gate transitions a t rises falls h =
+    current-none gate transitions t
+    (λ P x m. let l = ⊎-elim (rises x) (falls x) m in pulse-waits P (gate .rise) (gate .fall) (gate .delay) x t (omega arith))
+
 pub current-quiet : (gate : Gate) (transitions : Transitions) (a t : ℕ) → ((x : ℕ) → List·Memᴰ x (transitions .rises) → x ≤ a)
     → ((x : ℕ) → List·Memᴰ x (transitions .falls) → x ≤ a) → a + gate .rise + gate .fall < t + gate .delay
     → gateCurrent gate transitions t ≡ 0
-unfolding gateCurrent
 current-quiet gate transitions a t rises falls h =
-    let r = gate .rise in
-    let f = gate .fall in
-    let D = gate .delay in
-    let up = greatest-within (λ x. pulseAt (gate .peaks .lh) r f D x t) (transitions .rises) 0
-    (λ x m. let l = rises x m in rw (pulse-quiet (gate .peaks .lh) r f D x t (omega arith)) (omega arith)) in
-    let down = greatest-within (λ x. pulseAt (gate .peaks .hl) r f D x t) (transitions .falls) 0
-    (λ x m. let l = falls x m in rw (pulse-quiet (gate .peaks .hl) r f D x t (omega arith)) (omega arith)) in
-    omega arith
+    current-none gate transitions t
+    (λ P x m. let l = ⊎-elim (rises x) (falls x) m in pulse-quiet P (gate .rise) (gate .fall) (gate .delay) x t (omega arith))
 
 -- A gate with more transitions draws no less.
 pub current-at-most : {A B : Type 0} (gate : Gate) (rises falls : A → Bool) (rises′ falls′ : B → Bool) {xs : List A} {ys : List B}

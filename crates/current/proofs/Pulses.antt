@@ -1,11 +1,11 @@
 -- Laws of a pulse: it rises to its peak, falls after it and ends. Nothing else opens its rounding.
 -- Assumes nothing.
 use Prim.Native.Nat.{ℕ, _+_, _*_, _/_, _-_, _≤_, _<_}
-use mathlib.Core.Path.{_≡_, sym, ap, _∙_}
+use mathlib.Core.Path.{_≡_, refl, sym, ap, _∙_}
 use native.Mathlib.Nat.{le-div-iff-mul-le, div-mul-le-self, mul-le-mul-left, mul-le-mul-right, le-refl, le-trans, mul-div-cancel, zero-div, div-le-of-le-mul}
 use native.Mathlib.Omega.{arith}
 use lib.Dec.{leb, ltb, eqb}
-use borrow.Author.Tests.{le-leb, lt-leb, leb-true, leb-false, le-ltb, eqb-true, eqb-false}
+use borrow.Author.Tests.{le-leb, lt-leb, leb-true, leb-false, ltb-false, le-ltb, eqb-true, eqb-false}
 use borrow.Table.Steps.{cases}
 use Rattle.current.specs.Levels.{InRange, levelBy, Factored}
 use Rattle.current.specs.Pulse.{levelAfter, pulse, pulseAt}
@@ -115,6 +115,16 @@ module _ {P Q r f : ℕ} (range : InRange P r f) (h : Q ≤ P) where
 pub pulse-quiet : (P r f D x t : ℕ) → x + r + f < t + D → pulseAt P r f D x t ≡ 0
 unfolding pulseAt
 pulse-quiet P r f D x t h = rw (le-ltb (t + D) x (omega arith)) (pulse-over P r f (t + D - x) (omega arith))
+
+-- A pulse is 0 up to its start.
+pub pulse-waits : (P r f D x t : ℕ) → t + D ≤ x → pulseAt P r f D x t ≡ 0
+unfolding pulseAt
+pulse-waits P r f D x t h =
+    cases (ltb (t + D) x)
+    (λ b. rw b refl)
+    (λ b. let late = ltb-false (t + D) x b in
+    let begins : t + D - x ≡ 0 = omega arith in
+    rw (b, begins) (pulse-up P r f 0 (omega arith) ∙ level-none P r 0 refl))
 
 -- The levels that the code takes are those of the pulse.
 module _ {P r f rising falling : ℕ} (ready : Factored P r f rising falling) (k : ℕ) where

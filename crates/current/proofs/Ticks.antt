@@ -66,6 +66,15 @@ module _ {A : Type 0} (p : A → Bool) (d : A) where
       (λ b. absurd (false≢true (sym (none (passes .0) (ltb-true a (passes .0) b)) ∙ passes .3)))
       (λ b. let h = ltb-false a (passes .0) b in omega arith)
 
+  -- Where no value before tick a passes, the ticks are at least a.
+  pub ticks-at-least : (values : List A) (a : ℕ) → ((t : ℕ) → t < a → p (getD values t d) ≡ false) → (x : ℕ) → List·Memᴰ x (ticksWhere p 0 values) → a ≤ x
+  ticks-at-least values a none x m =
+      let passes = tick-passes 0 values x m in
+      let e = passes .1 in
+      cases (ltb (passes .0) a)
+      (λ b. absurd (false≢true (sym (none (passes .0) (ltb-true (passes .0) a b)) ∙ passes .3)))
+      (λ b. let h = ltb-false (passes .0) a b in omega arith)
+
 -- The greatest over the ticks of more values is no smaller.
 one-tick : (f : ℕ → ℕ) (t : ℕ) (a b : Bool) (r s : List ℕ) → (a ≡ true → b ≡ true) → greatestAt f r ≤ greatestAt f s
     → greatestAt f (cond a (t ∷ r) r) ≤ greatestAt f (cond b (t ∷ s) s)

@@ -7,7 +7,7 @@ use Rattle.laws.specs.Turn.{listBelow}
 use Rattle.excitation.specs.Excitation.{lh}
 use Rattle.block.specs.Block.{frame}
 use Rattle.block.specs.Examples.{blockF}
-use Rattle.sheet.specs.Sheet.{dropOf}
+use Rattle.sheet.specs.Sheet.{dropOf, quietTick}
 use Rattle.waveform.specs.Waveform.{simulation, envelope}
 use Rattle.current.specs.Current.{sheetOf}
 use Rattle.current.specs.Pulse.{pulse}
@@ -29,3 +29,6 @@ pub record CurrentExamples : Type 0 where
   -- ★ Drop 55 both ways.
   pub envelope-drop : dropOf tableF (sheetOf (envelope 10) blockF (frame blockF)) ≡ 55
   pub simulated-drop : dropOf tableF (sheetOf simulation blockF (lh ∷ lh ∷ [])) ≡ 55
+  -- Request 3: current flows last at tick 4, both ways, where the settling tick is 5.
+  pub envelope-quiet : quietTick (sheetOf (envelope 10) blockF (frame blockF)) ≡ 4
+  pub simulated-quiet : quietTick (sheetOf simulation blockF (lh ∷ lh ∷ [])) ≡ 4

@@ -57,7 +57,7 @@ module _ (given : EnvelopeArguments) {read : ReadAnswer} (is : read ≡ readOf (
   -- What Envelope promises, by the verdict.
   abbrev Promised : CurrentsAnswer → List ℕ → List ℕ → Verdict → Type 0
   Promised r sheet′ work′ v =
-      (r ≡ answerAfter v (currentsOf (given .file) (given .table) (givenSheet given)))
+      (r ≡ answerAfter v (currentsOf (given .table) (givenSheet given)))
       × (sheet′ ≡ bufferAfter v (sheetWords (givenSheet given)) (given .sheet))
       × WorkAfter v (given .work) work′
 
@@ -75,6 +75,6 @@ module _ (given : EnvelopeArguments) {read : ReadAnswer} (is : read ≡ readOf (
     argument-refused r said = enveloped _ _ _ (by-arguments (given .file) checks (Promised _ _ _) is told checked said (refl, refl, refl))
 
     pub call-accepted : (currents : Currents) (sheet′ work′ : List ℕ) → v ≡ verdict-is.Accepted
-        → Evaluated (given .file) (given .table) (givenSheet given) currents sheet′ → Enveloped given (answer.Found currents) sheet′ work′
+        → Evaluated (given .table) (givenSheet given) currents sheet′ → Enveloped given (answer.Found currents) sheet′ work′
     call-accepted currents sheet′ work′ said e =
         enveloped _ _ _ (by-arguments (given .file) checks (Promised _ _ _) is told checked said (ap answer.Found (e .answered), e .written, tt))

@@ -22,7 +22,7 @@ module _ {file : File} (setting : Setting) (accepted : AcceptedFile file (settin
     low = λ net h. (let high = accepted .input net h .allowed-high in omega (arith, frame-code accepted coded net h));
   }
 
-  pub frame-evaluated : {table words : List ℕ} {answer : Currents} → Evaluated file table (sheetFor file setting codes) answer words
-      → Evaluated file table (frameSheet (setting .hops) file) answer words
+  pub frame-evaluated : {table words : List ℕ} {answer : Currents} → Evaluated table (sheetFor file setting codes) answer words
+      → Evaluated table (frameSheet (setting .hops) file) answer words
   frame-evaluated {table} {words} {answer} e =
-      subst (λ sets. Evaluated file table (envelopeSheet (setting .hops) file sets) answer words) (frame-sets accepted coded) e
+      subst (λ sets. Evaluated table (envelopeSheet (setting .hops) file sets) answer words) (frame-sets accepted coded) e

@@ -42,7 +42,7 @@ givenSheet given = frameSheet (given .hops) (given .file)
 
 -- Envelope's answer: the drop and the quiet tick, or the refusal.
 abbrev pub envelopeAnswer : EnvelopeArguments → CurrentsAnswer
-envelopeAnswer given = answerAfter (envelopeVerdict given) (currentsOf (given .file) (given .table) (givenSheet given))
+envelopeAnswer given = answerAfter (envelopeVerdict given) (currentsOf (given .table) (givenSheet given))
 
 -- What Envelope promises: its answer, and each buffer as it leaves it.
 pub record Enveloped (given : EnvelopeArguments) (answer : CurrentsAnswer) (sheet′ work′ : List ℕ) : Type 0 where

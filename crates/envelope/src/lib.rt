@@ -30,7 +30,7 @@ fn evaluate_frame(
     work: &mut [u8],
 ) -> Currents
     requires { ⌜ Evaluable (now file) setting (now sheet) (now work) ⌝ }
-    ensures { λ r. ⌜ Evaluated (now (file .entry)) (now (table .entry)) (frameSheet (setting .hops) (now (file .entry))) r (now (sheet .exit)) ⌝ }
+    ensures { λ r. ⌜ Evaluated (now (table .entry)) (frameSheet (setting .hops) (now (file .entry))) r (now (sheet .exit)) ⌝ }
 {
     let mut codes = [0u8; 64];
     block::frame_codes(file, setting.inputs, &mut codes);

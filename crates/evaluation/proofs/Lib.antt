@@ -1,4 +1,4 @@
 pub mod Given
 pub mod Rows
 pub mod Drawing
-pub mod Quiet
+pub mod Settling

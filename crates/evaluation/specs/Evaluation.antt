@@ -10,7 +10,7 @@ use Rattle.block.specs.Accepted.{AcceptedFile}
 use Rattle.block.specs.Block.{settlingTick, switchingTick}
 use Rattle.block.specs.Limits.{blockLimit, dropLimit}
 use Rattle.block.specs.Record.{File}
-use Rattle.sheet.specs.Sheet.{Sheet, sheetWords, dropOf, sheetIn}
+use Rattle.sheet.specs.Sheet.{Sheet, sheetWords, dropOf, sheetIn, quietTick}
 use Rattle.waveform.specs.Rows.{waveformIn, arrivalIn, SettledRow}
 use Rattle.waveform.specs.Waveform.{simulation, envelope, inputWaveform}
 use Rattle.current.specs.Current.{sheetOf}
@@ -24,11 +24,6 @@ simulatedSheet = sheetOf simulation
 -- The envelope of a case, given by the sets of its inputs.
 abbrev pub envelopeSheet : ℕ → File → List UncertaintySet → Sheet
 envelopeSheet hops = sheetOf (envelope hops)
-
--- Document 01's quiet tick of a block and a sheet of it, after which rows are 0: the greatest arrival − D + r + f of a gate, 0 without
--- gates.
-unfoldable pub quietTick : File → Sheet → ℕ
-quietTick file sheet = settlingTick file
 
 -- A work buffer with a row for each net.
 pub record HasRows (work : List ℕ) (nets : ℕ) : Type 0 where
@@ -66,12 +61,12 @@ pub record BlockDrawn (file : File) (setting : Setting) (codes : List ℕ) (sett
   pub settled : settling ≡ settlingTick file
   pub soon : settling < 511
 
--- The drop and the quiet tick of a sheet of a block.
-abbrev pub currentsOf : File → List ℕ → Sheet → Currents
-currentsOf file table sheet = record { drop = dropOf table sheet; quiet = quietTick file sheet }
+-- The drop and the quiet tick of a sheet.
+abbrev pub currentsOf : List ℕ → Sheet → Currents
+currentsOf table sheet = record { drop = dropOf table sheet; quiet = quietTick sheet }
 
 -- What an evaluation gives: a sheet in its words, and the sheet's drop and quiet tick.
-pub record Evaluated (file : File) (table : List ℕ) (sheet : Sheet) (answer : Currents) (words : List ℕ) : Type 0 where
-  pub answered : answer ≡ currentsOf file table sheet
+pub record Evaluated (table : List ℕ) (sheet : Sheet) (answer : Currents) (words : List ℕ) : Type 0 where
+  pub answered : answer ≡ currentsOf table sheet
   pub written : words ≡ sheetWords sheet
   pub low : answer .drop < dropLimit

@@ -70,12 +70,13 @@ pub fn evaluate(
     work: &mut [u8],
 ) -> Currents
     requires { ⌜ Evaluable (now file) setting (now sheet) (now work) × InputCodes (setting .inputs) (now codes) ⌝ }
-    ensures { λ r. ⌜ Evaluated (now (file .entry)) (now (table .entry)) (sheetFor (now (file .entry)) setting (now (codes .entry))) r (now (sheet .exit)) ⌝ }
+    ensures { λ r. ⌜ Evaluated (now (table .entry)) (sheetFor (now (file .entry)) setting (now (codes .entry))) r (now (sheet .exit)) ⌝ }
 {
     let settling = draw(file, setting, codes, sheet, work);
     let drop = sheet::greatest_drop(table, sheet, settling + 1);
+    let quiet = sheet::quiet_tick(sheet, settling + 1);
     Currents {
         drop,
-        quiet: settling as u64,
+        quiet: quiet as u64,
     }
 }

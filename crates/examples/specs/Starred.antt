@@ -35,19 +35,26 @@ searching file table ratio budget = record {
   store = [];
 }
 
--- What a search finds: its outcome, U, L, splits and cases.
-abbrev pub finding : Outcome → ℕ → ℕ → ℕ → ℕ → Found
-finding outcome upper lower splits cases = record { outcome = outcome; upper = upper; lower = lower; splits = splits; cases = cases }
+-- What a search finds: its outcome, U, L, splits, cases and quiet tick.
+abbrev pub finding : Outcome → ℕ → ℕ → ℕ → ℕ → ℕ → Found
+finding outcome upper lower splits cases quiet = record {
+  outcome = outcome;
+  upper = upper;
+  lower = lower;
+  splits = splits;
+  cases = cases;
+  quiet = quiet;
+}
 
 pub record SearchExamples : Type 0 where
   -- Block F, resistances 2, 1: ★ exact with no split.
-  pub exact-F : foundBy (searchOf (searching blockF tableF 1000 200)) ≡ finding Exact 55 55 0 1
+  pub exact-F : foundBy (searching blockF tableF 1000 200) ≡ finding Exact 55 55 0 1 4
   pub pattern-F : searchOf (searching blockF tableF 1000 200) .state .best .pattern ≡ lh ∷ lh ∷ []
   -- Block S, resistance 1: ★ budget 0, ratio 1,999: spent, U 20, L 10; ★ ratio 2,000: within.
-  pub spent-S : foundBy (searchOf (searching blockS tableS 1999 0)) ≡ finding Spent 20 10 0 1
-  pub within-S : foundBy (searchOf (searching blockS tableS 2000 0)) ≡ finding Within 20 10 0 1
+  pub spent-S : foundBy (searching blockS tableS 1999 0) ≡ finding Spent 20 10 0 1 1
+  pub within-S : foundBy (searching blockS tableS 2000 0) ≡ finding Within 20 10 0 1 1
   -- What the program finds of block S, and prints.
-  pub exact-S : foundBy (searchOf (searching blockS tableS 1000 200)) ≡ finding Exact 10 10 1 4
+  pub exact-S : foundBy (searching blockS tableS 1000 200) ≡ finding Exact 10 10 1 4 1
   pub pattern-S : searchOf (searching blockS tableS 1000 200) .state .best .pattern ≡ lh ∷ []
   pub program-S : programText blockS ≡ ascii "exact 10 10 1 4\nlh\n"
 

@@ -2,7 +2,7 @@
 -- Assumes nothing.
 use Prim.Native.Nat.{ℕ, zero, suc, _+_, _-_, _*_, _≤_, _<_, max}
 use mathlib.Core.Path.{_≡_, refl, sym, ap, _∙_}
-use mathlib.Core.Bool.{Bool, true, false, cond, _&&_, and-true, and-assoc}
+use mathlib.Core.Bool.{Bool, true, false, cond, _&&_, _||_, and-true, and-assoc, false≢true}
 use mathlib.Core.Logic.{⊎-elim}
 use native.Mathlib.Nat.{add-zero, add-suc, not-suc-le-zero, eq-or-lt-of-le, le-of-suc-le-suc, mul-le-mul-right}
 use native.Mathlib.Numerals.{add-one}
@@ -10,8 +10,8 @@ use native.Mathlib.Omega.{arith}
 use lib.Dec.{eqb, ltb}
 use borrow.Author.Tests.{ltb-true, ltb-false, eqb-true, ne-eqb}
 use borrow.Table.Steps.{cases}
-use Rattle.laws.specs.Below.{allBelow, anyBelow, maxBelow, argmax, sumBelow, indicator, countBelow}
-use Rattle.laws.proofs.Tests.{and-left, and-right, and-both, and-second-fails}
+use Rattle.laws.specs.Below.{allBelow, anyBelow, maxBelow, argmax, lastBelow, sumBelow, indicator, countBelow}
+use Rattle.laws.proofs.Tests.{and-left, and-right, and-both, and-second-fails, or-first, or-second, or-fails}
 
 -- One number more, as a loop counts.
 
@@ -22,6 +22,14 @@ all-next n p s t = rw add-one (and-both s t)
 pub max-next : (n : ℕ) (f : ℕ → ℕ) → maxBelow (n + 1) f ≡ max (maxBelow n f) (f n)
 unfolding maxBelow
 max-next n f = rw add-one refl
+
+pub any-next : (n : ℕ) (p : ℕ → Bool) → anyBelow (n + 1) p ≡ (anyBelow n p || p n)
+unfolding anyBelow
+any-next n p = rw add-one refl
+
+pub last-next : (n : ℕ) (p : ℕ → Bool) → lastBelow (n + 1) p ≡ cond (p n) n (lastBelow n p)
+unfolding lastBelow
+last-next n p = rw add-one refl
 
 pub argmax-next : (n : ℕ) (f : ℕ → ℕ) → argmax (n + 1) f ≡ cond (ltb (f (argmax n f)) (f n)) n (argmax n f)
 unfolding argmax
@@ -56,6 +64,26 @@ all-fails zero p k h e = absurd (not-suc-le-zero h)
 all-fails (suc n) p k h e =
     ⊎-elim (λ (q : k ≡ n). and-second-fails (allBelow n p) (rw q at e)) (λ l. rw (all-fails n p k l e) refl)
     (eq-or-lt-of-le (le-of-suc-le-suc h))
+
+-- A test that passes at some number below n, and one that passes at none.
+
+pub any-passes : (n : ℕ) (p : ℕ → Bool) (k : ℕ) → k < n → p k ≡ true → anyBelow n p ≡ true
+unfolding anyBelow
+any-passes zero p k h e = absurd (not-suc-le-zero h)
+any-passes (suc n) p k h e =
+    ⊎-elim (λ (q : k ≡ n). or-second (anyBelow n p) (rw q at e)) (λ l. or-first (p n) (any-passes n p k l e)) (eq-or-lt-of-le (le-of-suc-le-suc h))
+
+pub any-fails : (n : ℕ) (p : ℕ → Bool) (k : ℕ) → anyBelow n p ≡ false → k < n → p k ≡ false
+unfolding anyBelow
+any-fails zero p k e h = absurd (not-suc-le-zero h)
+any-fails (suc n) p k e h =
+    let both = or-fails (anyBelow n p) (p n) e in
+    ⊎-elim (λ (q : k ≡ n). rw q (both .1)) (λ l. any-fails n p k (both .0) l) (eq-or-lt-of-le (le-of-suc-le-suc h))
+
+pub any-none : (n : ℕ) (p : ℕ → Bool) → ((k : ℕ) → k < n → p k ≡ false) → anyBelow n p ≡ false
+unfolding anyBelow
+any-none zero p none = refl
+any-none (suc n) p none = rw (any-none n p (λ k h. none k (omega arith)), none n (omega arith)) refl
 
 -- No value below n is above the greatest.
 pub max-at : (n : ℕ) (f : ℕ → ℕ) (k : ℕ) → k < n → f k ≤ maxBelow n f
@@ -298,3 +326,44 @@ argmax-same (suc n) f g same =
       same n (omega arith),
     )
     refl
+
+-- The last number below n at which p passes: p fails after it, and passes at it unless it passes at none. Where p passes only where q does,
+-- its last is not later.
+
+pub last-after : (n : ℕ) (p : ℕ → Bool) (k : ℕ) → lastBelow n p < k → k < n → p k ≡ false
+unfolding lastBelow
+last-after zero p k = λ l h. absurd (not-suc-le-zero h)
+last-after (suc n) p k =
+    cases (p n)
+    (λ t. rw t (λ l h. absurd (omega arith)))
+    (λ t. rw t (λ l h. ⊎-elim (λ (q : k ≡ n). rw q t) (λ m. last-after n p k l m) (eq-or-lt-of-le (le-of-suc-le-suc h))))
+
+pub last-none : (n : ℕ) (p : ℕ → Bool) → p (lastBelow n p) ≡ false → (k : ℕ) → k < n → p k ≡ false
+unfolding lastBelow
+last-none zero p = λ e k h. absurd (not-suc-le-zero h)
+last-none (suc n) p =
+    cases (p n)
+    (λ t. rw t (λ e k h. absurd (false≢true (sym e ∙ t))))
+    (λ t. rw t (λ e k h. ⊎-elim (λ (q : k ≡ n). rw q t) (λ m. last-none n p e k m) (eq-or-lt-of-le (le-of-suc-le-suc h))))
+
+pub last-beyond : (m n : ℕ) (p : ℕ → Bool) → n ≤ m → ((k : ℕ) → n ≤ k → k < m → p k ≡ false) → lastBelow m p ≡ lastBelow n p
+unfolding lastBelow
+last-beyond zero n p h none = let e : n ≡ 0 = omega arith in rw e refl
+last-beyond (suc m) n p h none =
+    ⊎-elim (λ (e : n ≡ suc m). rw e refl)
+    (λ l. rw (none m (le-of-suc-le-suc l) (omega arith)) (last-beyond m n p (le-of-suc-le-suc l) (λ k low high. none k low (omega arith))))
+    (eq-or-lt-of-le h)
+
+last-at-most : (n : ℕ) (p : ℕ → Bool) → lastBelow n p ≤ n
+unfolding lastBelow
+last-at-most zero p = omega arith
+last-at-most (suc n) p = let h = last-at-most n p in cases (p n) (λ t. rw t (omega arith)) (λ t. rw t (omega arith))
+
+pub last-implied : (n : ℕ) (p q : ℕ → Bool) → ((k : ℕ) → k < n → p k ≡ true → q k ≡ true) → lastBelow n p ≤ lastBelow n q
+unfolding lastBelow
+last-implied zero p q each = omega arith
+last-implied (suc n) p q each =
+    let rest = last-implied n p q (λ k h. each k (omega arith)) in
+    cases (p n)
+    (λ t. rw (t, each n (omega arith) t) (omega arith))
+    (λ t. let low = last-at-most n p in cases (q n) (λ u. rw (t, u) (omega arith)) (λ u. rw (t, u) rest))

@@ -1,4 +1,4 @@
--- Tests, counts and the greatest over the numbers below n. Each is defined by one number more.
+-- Tests, counts, the greatest and the last over the numbers below n. Each is defined by one number more.
 use Prim.Native.Nat.{ℕ, zero, suc, _+_, max}
 use mathlib.Core.Bool.{Bool, true, false, cond, _&&_, _||_}
 use lib.Dec.{ltb}
@@ -22,6 +22,11 @@ maxBelow (suc n) f = max (maxBelow n f) (f n)
 unfoldable pub argmax : ℕ → (ℕ → ℕ) → ℕ
 argmax zero f = 0
 argmax (suc n) f = let best = argmax n f in cond (ltb (f best) (f n)) n best
+
+-- The last number below n at which p passes, 0 where there is none.
+unfoldable pub lastBelow : ℕ → (ℕ → Bool) → ℕ
+lastBelow zero p = 0
+lastBelow (suc n) p = cond (p n) n (lastBelow n p)
 
 -- The sum of the values of f below n.
 unfoldable pub sumBelow : ℕ → (ℕ → ℕ) → ℕ

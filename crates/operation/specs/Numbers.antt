@@ -1,5 +1,5 @@
--- The eight numbers of each case of an answer: 0 and document 01's values for an accepted call, or the refusal's number and place; 0
--- past them.
+-- The eight numbers of each case of an answer: 0 and the values that document 01 and the requests name for an accepted call, or the
+-- refusal's number and place; 0 past them.
 use Prim.Native.Nat.{ℕ, _-_}
 use mathlib.Core.List.{List, [], _∷_, _++_}
 use lib.ListN.{length, replicate}
@@ -37,8 +37,8 @@ outcomeNumber Exact = 0
 outcomeNumber Within = 1
 outcomeNumber Spent = 2
 
--- Search: outcome, U, L, splits and cases.
+-- Search: outcome, U, L, splits, cases and the quiet tick.
 abbrev pub searchNumbers : SearchAnswer → List ℕ
 searchNumbers (search-answer.Found found) =
-    eight (0 ∷ outcomeNumber (found .outcome) ∷ found .upper ∷ found .lower ∷ found .splits ∷ found .cases ∷ [])
+    eight (0 ∷ outcomeNumber (found .outcome) ∷ found .upper ∷ found .lower ∷ found .splits ∷ found .cases ∷ found .quiet ∷ [])
 searchNumbers (search-answer.Refused r) = refusalNumbers r

@@ -4,7 +4,7 @@ use block::Refusal;
 pub mod arguments;
 pub mod pattern;
 
-// What Envelope and Simulate find: a drop in nanovolts, and the tick after which no current flows.
+// What Envelope and Simulate find: the drop of their sheet in nanovolts, and its quiet tick, the last at which current flows.
 pub struct Currents {
     pub drop: u64,
     pub quiet: u64,
@@ -23,13 +23,14 @@ pub enum Outcome {
     Spent,
 }
 
-// What Search finds: its outcome, U, L, how many cases were split and how many there are.
+// What Search finds: its outcome, U, L, how many cases were split, how many there are, and the quiet tick of its sheet.
 pub struct Found {
     pub outcome: Outcome,
     pub upper: u64,
     pub lower: u64,
     pub splits: u64,
     pub cases: u64,
+    pub quiet: u64,
 }
 
 // What Search answers.

@@ -21,7 +21,7 @@ use Rattle.operation.specs.declared.Found.{Found}
 use Rattle.operation.specs.declared.SearchAnswer.{SearchAnswer}
 use Rattle.operation.specs.declared.SearchAnswer.the-variants as answer
 use Rattle.operation.proofs.Operations.{by-file}
-use Rattle.search.specs.Search.{searchOf, argumentChecks, searchVerdict, searchAnswerAfter, Searched}
+use Rattle.search.specs.Search.{searchOf, argumentChecks, searchVerdict, foundBy, searchAnswerAfter, Searched}
 use Rattle.search.proofs.Agreement.{pattern-handed}
 use Rattle.program.specs.declared.Text.{Text}
 use Rattle.program.specs.Lines.{line, written, Printed}
@@ -59,7 +59,7 @@ module _ (file : File) where
   unfolding searchText searchVerdict programArguments
   read-refused {read} {r} is told =
       by-file file (programChecks file)
-      (λ v. refusalText r ≡ answerText (searchAnswerAfter v (searchOf (programArguments file))) (searchOf (programArguments file) .state .best .pattern))
+      (λ v. refusalText r ≡ answerText (searchAnswerAfter v (foundBy (programArguments file))) (searchOf (programArguments file) .state .best .pattern))
       is told refl
 
   module _ {a : SearchAnswer} {sheet′ pattern′ work′ store′ : List ℕ} (s : Searched (programArguments file) a sheet′ pattern′ work′ store′) where

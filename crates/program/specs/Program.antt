@@ -14,7 +14,7 @@ use Rattle.operation.specs.declared.Outcome.{Outcome}
 use Rattle.operation.specs.declared.Outcome.the-variants.{Exact, Within, Spent}
 use Rattle.operation.specs.declared.SearchAnswer.{SearchAnswer}
 use Rattle.operation.specs.declared.SearchAnswer.the-variants as answer
-use Rattle.search.specs.Search.{SearchArguments, searchOf, searchVerdict, searchAnswerAfter}
+use Rattle.search.specs.Search.{SearchArguments, searchOf, searchAnswer}
 use Rattle.program.specs.Lines.{decimal, line}
 
 -- Up to 256 records of 20 bytes.
@@ -66,7 +66,7 @@ answerText (answer.Refused r) pattern = refusalText r
 unfoldable pub searchText : File → List ℕ
 searchText file =
     let given = programArguments file in
-    answerText (searchAnswerAfter (searchVerdict given) (searchOf given)) (searchOf given .state .best .pattern)
+    answerText (searchAnswer given) (searchOf given .state .best .pattern)
 
 -- What the program prints for the bytes of standard input. A 5,121st byte gives refusal 2, place 0, before any other check.
 unfoldable pub programText : File → List ℕ

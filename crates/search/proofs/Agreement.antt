@@ -24,9 +24,10 @@ use Rattle.operation.specs.declared.CurrentsAnswer.the-variants as currents
 use Rattle.operation.specs.declared.Found.{Found}
 use Rattle.operation.specs.declared.SearchAnswer.the-variants as answer
 use Rattle.operation.proofs.Patterns.{pattern-chosen}
-use Rattle.sheet.specs.Sheet.{sheetWords, dropOf}
+use Rattle.sheet.specs.Sheet.{sheetWords, dropOf, quietTick}
+use Rattle.sheet.proofs.QuietTick.{quiet-no-later}
 use Rattle.sheet.proofs.Sheets.{words-at-most}
-use Rattle.evaluation.specs.Evaluation.{simulatedSheet, envelopeSheet, quietTick, currentsOf}
+use Rattle.evaluation.specs.Evaluation.{simulatedSheet, envelopeSheet, currentsOf}
 use Rattle.envelope.proofs.Soundness.{soundness}
 use Rattle.cases.specs.Choice.{coneSizes}
 use Rattle.cases.specs.Promise.{Right}
@@ -36,9 +37,9 @@ use Rattle.cases.proofs.Chosen.{chosen-undecided}
 use Rattle.cases.proofs.Outcomes.{is-exact, is-within, is-spent, Says, says}
 use Rattle.cases.proofs.Right.{search-right, sheet-above}
 use Rattle.simulator.specs.Simulate.{SimulateArguments, sizeChecks, simulateVerdict, patternSheet, givenSheet, Simulated}
-use Rattle.bounds.specs.Bounds.{simulatedDrop, envelopeDrop, sheetOver}
+use Rattle.bounds.specs.Bounds.{simulatedDrop, envelopeDrop}
 use Rattle.search.specs.Agreement.{sharing, Agrees, Agreement}
-use Rattle.search.specs.Search.{SearchArguments, chooseIn, searchOf, searchVerdict, foundBy, searchAnswerAfter, Searched}
+use Rattle.search.specs.Search.{SearchArguments, chooseIn, searchOf, searchVerdict, finalSheet, foundBy, searchAnswerAfter, Searched}
 use Rattle.search.proofs.Accepted.{ArgumentsRight, arguments-right}
 use Rattle.search.proofs.Frame.{frame-probe, pattern-room, pattern-back, pattern-passes}
 
@@ -48,27 +49,27 @@ currents-accepted : (v : Verdict) (are told : Currents) → currents.Found told 
 currents-accepted verdict-is.Accepted are told e = (refl, cc)
 currents-accepted (verdict-is.Refused r) are told e = absurd (let z : _≡_ {A = ℕ} 0 1 = cc in omega arith)
 
-found-accepted : (v : Verdict) (end : SearchEnd) (told : Found) → answer.Found told ≡ searchAnswerAfter v end → (v ≡ verdict-is.Accepted) × (told ≡ foundBy end)
-found-accepted verdict-is.Accepted end told e = (refl, cc)
-found-accepted (verdict-is.Refused r) end told e = absurd (let z : _≡_ {A = ℕ} 0 1 = cc in omega arith)
+found-accepted : (v : Verdict) (found told : Found) → answer.Found told ≡ searchAnswerAfter v found → (v ≡ verdict-is.Accepted) × (told ≡ found)
+found-accepted verdict-is.Accepted found told e = (refl, cc)
+found-accepted (verdict-is.Refused r) found told e = absurd (let z : _≡_ {A = ℕ} 0 1 = cc in omega arith)
 
 -- What an accepted simulation is.
-record AcceptedSimulation (given : SimulateArguments) (drop : ℕ) (simulated : List ℕ) : Type 0 where
+record AcceptedSimulation (given : SimulateArguments) (told : Currents) (simulated : List ℕ) : Type 0 where
   choice : Choice (patternOf (inputCount (given .file)) (given .pattern)) (frame (given .file))
-  drop-is : drop ≡ dropOf (given .table) (givenSheet given)
+  currents-are : told ≡ currentsOf (given .table) (givenSheet given)
   sheet-is : simulated ≡ sheetWords (givenSheet given)
 
 simulation-accepted : {given : SimulateArguments} {told : Currents} {simulated work′ : List ℕ} → Simulated given (currents.Found told) simulated work′
-    → AcceptedSimulation given (told .drop) simulated
+    → AcceptedSimulation given told simulated
 unfolding simulateVerdict
 simulation-accepted {given} {told} s =
-    let v = currents-accepted (simulateVerdict given) (currentsOf (given .file) (given .table) (givenSheet given)) told (s .answered) in
+    let v = currents-accepted (simulateVerdict given) (currentsOf (given .table) (givenSheet given)) told (s .answered) in
     let rest = both-accepted (readChecks (given .file)) _ (v .0) .1 in
     let bytes-accepted = both-accepted
     (sizeChecks (netCount (given .file)) (length (given .table)) (length (given .sheet)) (length (given .pattern)) (length (given .work))) _ rest .1 in
     record {
       choice = pattern-chosen (given .file) (given .pattern) bytes-accepted;
-      drop-is = ap (λ (c : Currents). c .drop) (v .1);
+      currents-are = v .1;
       sheet-is = s .written ∙ ap (λ v. bufferAfter v (sheetWords (givenSheet given)) (given .sheet)) (v .0);
     }
 
@@ -78,8 +79,8 @@ record AcceptedSearch (given : SearchArguments) (found : Found) (sheet pattern :
   read-passed : verdict (readChecks (given .file)) ≡ verdict-is.Accepted
   arguments : ArgumentsRight (netCount (given .file)) (given .hops) (length (given .table)) (given .ratio) (given .budget) (length (given .sheet))
       (length (given .pattern)) (length (given .work)) (length (given .store))
-  found-is : found ≡ foundBy (searchOf given)
-  sheet-is : sheet ≡ sheetWords (sheetOver (given .file) (given .hops) (searchOf given .state .cases))
+  found-is : found ≡ foundBy given
+  sheet-is : sheet ≡ sheetWords (finalSheet given)
   pattern-is : pattern ≡ patternWith (searchOf given .state .best .pattern) (given .pattern)
 
 read-accepted : (file : File) → verdict (readChecks file) ≡ verdict-is.Accepted → AcceptedFile file (netCount file) (inputCount file)
@@ -90,14 +91,14 @@ search-accepted : (given : SearchArguments) (found : Found) (sheet′ pattern′
     → Searched given (answer.Found found) sheet′ pattern′ work′ store′ → AcceptedSearch given found sheet′ pattern′
 unfolding searchVerdict
 search-accepted given found sheet′ pattern′ work′ store′ s =
-    let is = found-accepted (searchVerdict given) (searchOf given) found (s .answered) in
+    let is = found-accepted (searchVerdict given) (foundBy given) found (s .answered) in
     let both = both-accepted (readChecks (given .file)) _ (is .0) in
     record {
       file-accepted = read-accepted (given .file) (both .0);
       read-passed = both .0;
       arguments = arguments-right _ _ _ _ _ _ _ _ _ (both .1);
       found-is = is .1;
-      sheet-is = s .sheet-written ∙ ap (λ v. bufferAfter v (sheetWords (sheetOver (given .file) (given .hops) (searchOf given .state .cases))) (given .sheet)) (is .0);
+      sheet-is = s .sheet-written ∙ ap (λ v. bufferAfter v (sheetWords (finalSheet given)) (given .sheet)) (is .0);
       pattern-is = s .pattern-written ∙ ap (λ v. bufferAfter v (patternWith (searchOf given .state .best .pattern) (given .pattern)) (given .pattern)) (is .0);
     }
 
@@ -116,16 +117,16 @@ module _ (given : SearchArguments) (found : Found) (sheet pattern : List ℕ) (e
       (chosen-undecided (coneSizes file))
       (frame-probe file (netCount file) (inputCount file) (ended .file-accepted))
 
-  upper-is : found .upper ≡ foundBy end .upper
+  upper-is : found .upper ≡ foundBy given .upper
   upper-is = ap (λ (f : Found). f .upper) (ended .found-is)
 
-  lower-is : found .lower ≡ foundBy end .lower
+  lower-is : found .lower ≡ foundBy given .lower
   lower-is = ap (λ (f : Found). f .lower) (ended .found-is)
 
-  outcome-is : found .outcome ≡ foundBy end .outcome
+  outcome-is : found .outcome ≡ foundBy given .outcome
   outcome-is = ap (λ (f : Found). f .outcome) (ended .found-is)
 
-  splits-is : found .splits ≡ foundBy end .splits
+  splits-is : found .splits ≡ foundBy given .splits
   splits-is = ap (λ (f : Found). f .splits) (ended .found-is)
 
   -- The outcome is what U and L say.
@@ -138,19 +139,27 @@ module _ (given : SearchArguments) (found : Found) (sheet pattern : List ℕ) (e
 
   module _ {room bytes work : List ℕ} {told : Currents} {simulated work′ : List ℕ}
       (run : Simulated (sharing given room bytes work) (currents.Found told) simulated work′) where
-    simulation : AcceptedSimulation (sharing given room bytes work) (told .drop) simulated
+    simulation : AcceptedSimulation (sharing given room bytes work) told simulated
     simulation = simulation-accepted run
 
-    sheet-above-run : (i : ℕ) → getD simulated i 0 ≤ getD sheet i 0
-    sheet-above-run i =
+    -- The search's sheet is nowhere below that of the pattern.
+    final-above : (c t : ℕ) → patternSheet file bytes c t ≤ finalSheet given c t
+    final-above =
         let cover = right .covered (simulation .choice) in
-        rw (simulation .sheet-is, ended .sheet-is)
-        (words-at-most (patternSheet file bytes) (sheetOver file (given .hops) (end .state .cases))
-        (sheet-above (simulatedSheet file) (envelopeSheet (given .hops) file) (λ p case choice c t. soundness file .draws-no-more (given .hops) choice c t) _ (end .state .cases) cover) i)
+        sheet-above (simulatedSheet file) (envelopeSheet (given .hops) file) (λ p case choice c t. soundness file .draws-no-more (given .hops) choice c t) _ (end .state .cases) cover
+
+    sheet-above-run : (i : ℕ) → getD simulated i 0 ≤ getD sheet i 0
+    sheet-above-run i = rw (simulation .sheet-is, ended .sheet-is) (words-at-most (patternSheet file bytes) (finalSheet given) final-above i)
 
     drop-below-run : told .drop ≤ found .upper
     unfolding foundBy
-    drop-below-run = rw (simulation .drop-is, upper-is) (right .above (simulation .choice))
+    drop-below-run = rw (simulation .currents-are, upper-is) (right .above (simulation .choice))
+
+    quiet-before-run : told .quiet ≤ found .quiet
+    unfolding foundBy
+    quiet-before-run =
+        rw (simulation .currents-are, ap (λ (f : Found). f .quiet) (ended .found-is))
+        (quiet-no-later (patternSheet file bytes) (finalSheet given) (λ c t h l. final-above c t))
 
   -- The pattern handed over is the search's, a choice of the frame; it passes Simulate's checks, and drops L.
 
@@ -185,17 +194,18 @@ module _ (given : SearchArguments) (found : Found) (sheet pattern : List ℕ) (e
 
   handed-over : (room work : List ℕ) (a : CurrentsAnswer) (simulated work′ : List ℕ) → length room ≡ 8192 → 160 * netCount file ≤ length work
       → Simulated (sharing given room pattern work) a simulated work′
-      → a ≡ currents.Found (record { drop = found .lower; quiet = quietTick file (patternSheet file pattern) })
+      → a ≡ currents.Found (record { drop = found .lower; quiet = quietTick (patternSheet file pattern) })
   handed-over room work a simulated work′ sheet-long work-long s =
       s .answered
-      ∙ ap (λ v. answerAfter v (currentsOf file (given .table) (patternSheet file pattern))) (handed-passes room work sheet-long work-long)
-      ∙ ap (λ d. currents.Found (record { drop = d; quiet = quietTick file (patternSheet file pattern) })) handed-drop
+      ∙ ap (λ v. answerAfter v (currentsOf (given .table) (patternSheet file pattern))) (handed-passes room work sheet-long work-long)
+      ∙ ap (λ d. currents.Found (record { drop = d; quiet = quietTick (patternSheet file pattern) })) handed-drop
 
   agrees : Agrees given found sheet pattern
   unfolding foundBy
   agrees = record {
     draws-no-more = λ room bytes work told simulated work′ s. sheet-above-run s;
     drops-no-more = λ room bytes work told simulated work′ s. drop-below-run s;
+    quiet-no-later = λ room bytes work told simulated work′ s. quiet-before-run s;
     pattern-chosen = subst (λ p. Choice p (frame file)) (sym handed-is) (right .chosen);
     pattern-drops = handed-over;
     exact-means = λ e. subst (Says (given .ratio) (found .upper) (found .lower)) e says-of;

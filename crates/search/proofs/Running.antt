@@ -9,7 +9,6 @@ use lib.ListN.{length}
 use Rattle.laws.specs.Below.{argmax}
 use Rattle.block.specs.Limits.{dropLimit}
 use Rattle.block.specs.Record.{File}
-use Rattle.operation.specs.declared.Found.{Found}
 use Rattle.operation.specs.declared.Outcome.{Outcome}
 use Rattle.operation.specs.declared.Outcome.the-variants.{Exact, Within, Spent}
 use Rattle.evaluation.specs.declared.Setting.{Setting}
@@ -21,6 +20,7 @@ use Rattle.cases.proofs.Probes.{split-covered}
 use Rattle.cases.proofs.Outcomes.{stop-exact, stop-within, stop-spent, goes-on}
 use Rattle.bounds.specs.Bounds.{simulatedDrop, envelopeDrop}
 use Rattle.search.specs.Search.{chooseIn}
+use Rattle.search.specs.declared.run.RunEnd.{RunEnd}
 use Rattle.search.specs.Steps.{Running, PastKept, CaseToSplit, CaseSplit, Ran, bestIn, stateIn}
 
 -- What is kept past some cases is kept past more, and through two steps where it is in each.
@@ -151,8 +151,8 @@ module _ {file : File} {setting : Setting} {table : List ℕ} {ratio budget thre
       }
 
 -- The same end by another name.
-pub ran-as : {file : File} {setting : Setting} {table : List ℕ} {ratio budget : ℕ} {start : State} {store pattern store′ pattern′ : List ℕ} {found same : Found}
-    → found ≡ same → Ran file setting table ratio budget start store pattern same store′ pattern′
-    → Ran file setting table ratio budget start store pattern found store′ pattern′
+pub ran-as : {file : File} {setting : Setting} {table : List ℕ} {ratio budget : ℕ} {start : State} {store pattern store′ pattern′ : List ℕ} {ended same : RunEnd}
+    → ended ≡ same → Ran file setting table ratio budget start store pattern same store′ pattern′
+    → Ran file setting table ratio budget start store pattern ended store′ pattern′
 ran-as {file} {setting} {table} {ratio} {budget} {start} {store} {pattern} {store′} {pattern′} e ran =
-    subst (λ found. Ran file setting table ratio budget start store pattern found store′ pattern′) (sym e) ran
+    subst (λ ended. Ran file setting table ratio budget start store pattern ended store′ pattern′) (sym e) ran

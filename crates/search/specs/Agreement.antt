@@ -1,6 +1,6 @@
 -- The agreement of the two houses (document 01, "What the checker must hold us to", 3): one house's search, whatever its hop limit, ratio
 -- and budget, and the other's simulation of whichever pattern in the frame. Both are given by the promises of the operations and by the
--- buffers as they stand at return; the two runs share the file and the table, and nothing else.
+-- buffers as they stand at return; the two runs share the file and the table, and nothing else. The clause on quiet ticks is request 3's.
 use Prim.Native.Nat.{ℕ, _+_, _*_, _≤_, _<_}
 use mathlib.Core.List.{List}
 use mathlib.Core.Path.{_≡_}
@@ -14,7 +14,7 @@ use Rattle.operation.specs.declared.CurrentsAnswer.the-variants as currents
 use Rattle.operation.specs.declared.Found.{Found}
 use Rattle.operation.specs.declared.Outcome.the-variants.{Exact, Within, Spent}
 use Rattle.operation.specs.declared.SearchAnswer.the-variants as search
-use Rattle.evaluation.specs.Evaluation.{quietTick}
+use Rattle.sheet.specs.Sheet.{quietTick}
 use Rattle.simulator.specs.Simulate.{SimulateArguments, patternSheet, Simulated}
 use Rattle.search.specs.Search.{SearchArguments, Searched}
 
@@ -30,12 +30,15 @@ pub record Agrees (given : SearchArguments) (found : Found) (sheet pattern : Lis
       → Simulated (sharing given room bytes work) (currents.Found answer) simulated work′ → (i : ℕ) → getD simulated i 0 ≤ getD sheet i 0
   pub drops-no-more : (room bytes work : List ℕ) (answer : Currents) (simulated work′ : List ℕ)
       → Simulated (sharing given room bytes work) (currents.Found answer) simulated work′ → answer .drop ≤ found .upper
+  -- Nor is its quiet tick later than the search's, so that a rail clipped at the search's tick loses no current of any pattern.
+  pub quiet-no-later : (room bytes work : List ℕ) (answer : Currents) (simulated work′ : List ℕ)
+      → Simulated (sharing given room bytes work) (currents.Found answer) simulated work′ → answer .quiet ≤ found .quiet
   -- The pattern handed over is a choice of the frame. Simulate, given the search's pattern buffer and buffers of the right sizes, accepts
-  -- it, and it drops exactly L.
+  -- it, and it drops exactly L; its quiet tick is that of its own simulated sheet.
   pub pattern-chosen : Choice (patternOf (inputCount (given .file)) pattern) (frame (given .file))
   pub pattern-drops : (room work : List ℕ) (answer : CurrentsAnswer) (simulated work′ : List ℕ) → length room ≡ 8192
       → 160 * netCount (given .file) ≤ length work → Simulated (sharing given room pattern work) answer simulated work′
-      → answer ≡ currents.Found (record { drop = found .lower; quiet = quietTick (given .file) (patternSheet (given .file) pattern) })
+      → answer ≡ currents.Found (record { drop = found .lower; quiet = quietTick (patternSheet (given .file) pattern) })
   -- Exact exactly when U = L, and then every accepted pattern drops at most L.
   pub exact-means : found .outcome ≡ Exact → found .upper ≡ found .lower
   pub exact-when : found .upper ≡ found .lower → found .outcome ≡ Exact

@@ -1,4 +1,4 @@
--- Search (document 01, "Search" and "Refusals in checking order"): its checks, its answer and its buffers.
+-- Search (document 01, "Search" and "Refusals in checking order"; request 3): its checks, its answer and its buffers.
 use Prim.Native.Nat.{ℕ}
 use mathlib.Core.List.{List, [], _∷_, _++_}
 use mathlib.Core.Path.{_≡_}
@@ -14,7 +14,7 @@ use Rattle.operation.specs.Operation.{bufferAfter, WorkAfter}
 use Rattle.operation.specs.declared.Found.{Found}
 use Rattle.operation.specs.declared.SearchAnswer.{SearchAnswer}
 use Rattle.operation.specs.declared.SearchAnswer.the-variants as answer
-use Rattle.sheet.specs.Sheet.{sheetWords}
+use Rattle.sheet.specs.Sheet.{Sheet, sheetWords, quietTick}
 use Rattle.cases.specs.Case.{Case}
 use Rattle.cases.specs.Choice.{coneSizes, chosenInput}
 use Rattle.cases.specs.Search.{SearchEnd, greatestUpper, search}
@@ -65,9 +65,15 @@ searchVerdict given =
     ++ argumentChecks (netCount (given .file)) (given .hops) (length (given .table)) (given .ratio) (given .budget) (length (given .sheet))
     (length (given .pattern)) (length (given .work)) (length (given .store)))
 
--- What an accepted search answers: outcome, U, L, splits (how many cases it split), cases (records in the store at the end).
-unfoldable pub foundBy : SearchEnd → Found
-foundBy end =
+-- The final sheet: the greatest, at each place, over the cases in the store at the end, decided ones simulated.
+abbrev pub finalSheet : SearchArguments → Sheet
+finalSheet given = sheetOver (given .file) (given .hops) (searchOf given .state .cases)
+
+-- What an accepted search answers: outcome, U, L, splits (how many cases it split), cases (records in the store at the end), and, since
+-- request 3, the quiet tick of its final sheet.
+unfoldable pub foundBy : SearchArguments → Found
+foundBy given =
+    let end = searchOf given in
     let state = end .state in
     record {
       outcome = end .outcome;
@@ -75,17 +81,21 @@ foundBy end =
       lower = state .best .lower;
       splits = end .splits;
       cases = length (state .cases);
+      quiet = quietTick (finalSheet given);
     }
 
--- The answer: what the search found, or the refusal.
-abbrev pub searchAnswerAfter : Verdict → SearchEnd → SearchAnswer
-searchAnswerAfter verdict-is.Accepted end = answer.Found (foundBy end)
-searchAnswerAfter (verdict-is.Refused r) end = answer.Refused r
+-- Search's answer: what the search found, or the refusal.
+abbrev pub searchAnswerAfter : Verdict → Found → SearchAnswer
+searchAnswerAfter verdict-is.Accepted found = answer.Found found
+searchAnswerAfter (verdict-is.Refused r) found = answer.Refused r
+
+abbrev pub searchAnswer : SearchArguments → SearchAnswer
+searchAnswer given = searchAnswerAfter (searchVerdict given) (foundBy given)
 
 -- What Search promises: its answer, and each buffer as it leaves it.
 pub record Searched (given : SearchArguments) (answer : SearchAnswer) (sheet′ pattern′ work′ store′ : List ℕ) : Type 0 where
-  pub answered : answer ≡ searchAnswerAfter (searchVerdict given) (searchOf given)
-  pub sheet-written : sheet′ ≡ bufferAfter (searchVerdict given) (sheetWords (sheetOver (given .file) (given .hops) (searchOf given .state .cases))) (given .sheet)
+  pub answered : answer ≡ searchAnswer given
+  pub sheet-written : sheet′ ≡ bufferAfter (searchVerdict given) (sheetWords (finalSheet given)) (given .sheet)
   pub pattern-written : pattern′ ≡ bufferAfter (searchVerdict given) (patternWith (searchOf given .state .best .pattern) (given .pattern)) (given .pattern)
   pub store-written : store′ ≡ bufferAfter (searchVerdict given) (storeWith (searchOf given .state .cases) (given .store)) (given .store)
   pub kept : WorkAfter (searchVerdict given) (given .work) work′

@@ -14,11 +14,12 @@ use Rattle.sheet.specs.Sheet.{sheetWords}
 use Rattle.cases.specs.Records.{casesIn, HasCases}
 use Rattle.cases.specs.Search.{Best, State, SearchEnd, greatestUpper, firstState, nextSplit, split, searchFrom}
 use Rattle.cases.specs.Store.{storeWith, patternWith}
-use Rattle.bounds.specs.Bounds.{simulatedDrop, envelopeDrop, sheetOver, CaseMade}
+use Rattle.bounds.specs.Bounds.{simulatedDrop, envelopeDrop, CaseMade}
 use Rattle.evaluation.specs.declared.Setting.{Setting}
 use Rattle.operation.specs.declared.Found.{Found}
-use Rattle.search.specs.Search.{SearchArguments, chooseIn, searchOf, foundBy}
+use Rattle.search.specs.Search.{SearchArguments, chooseIn, searchOf, finalSheet, foundBy}
 use Rattle.search.specs.declared.Step.{Step}
+use Rattle.search.specs.declared.run.RunEnd.{RunEnd}
 
 -- The state of a search, as its buffers have it.
 unfoldable pub bestIn : ℕ → ℕ → List ℕ → Best
@@ -85,19 +86,19 @@ pub record CaseSplit (file : File) (setting : Setting) (table : List ℕ) (n thr
 
 -- A run of the search from a state on, to its end.
 pub record Ran (file : File) (setting : Setting) (table : List ℕ) (ratio budget : ℕ) (start : State) (store pattern : List ℕ)
-    (found : Found) (store′ pattern′ : List ℕ) : Type 0 where
+    (ended : RunEnd) (store′ pattern′ : List ℕ) : Type 0 where
   pub end : SearchEnd
   pub is : end ≡ searchFrom (simulatedDrop file table) (envelopeDrop file (setting .hops) table) (chooseIn file) ratio budget 0 start
-  pub outcome : found .outcome ≡ end .outcome
-  pub upper : found .upper ≡ greatestUpper (end .state .cases)
-  pub splits : found .splits ≡ end .splits
-  pub state : stateIn (setting .inputs) (found .cases) (found .lower + 1) store′ pattern′ ≡ end .state
-  pub running : Running (setting .inputs) (found .cases) (found .lower + 1) store′ pattern′
-  pub past : PastKept (setting .inputs) (found .cases) store pattern store′ pattern′
+  pub outcome : ended .outcome ≡ end .outcome
+  pub upper : ended .upper ≡ greatestUpper (end .state .cases)
+  pub splits : ended .splits ≡ end .splits
+  pub state : stateIn (setting .inputs) (ended .cases) (ended .lower + 1) store′ pattern′ ≡ end .state
+  pub running : Running (setting .inputs) (ended .cases) (ended .lower + 1) store′ pattern′
+  pub past : PastKept (setting .inputs) (ended .cases) store pattern store′ pattern′
 
 -- An accepted call's answer and buffers.
 pub record BlockSearched (given : SearchArguments) (found : Found) (sheet′ pattern′ store′ : List ℕ) : Type 0 where
-  pub answered : found ≡ foundBy (searchOf given)
-  pub sheet-written : sheet′ ≡ sheetWords (sheetOver (given .file) (given .hops) (searchOf given .state .cases))
+  pub answered : found ≡ foundBy given
+  pub sheet-written : sheet′ ≡ sheetWords (finalSheet given)
   pub pattern-written : pattern′ ≡ patternWith (searchOf given .state .best .pattern) (given .pattern)
   pub store-written : store′ ≡ storeWith (searchOf given .state .cases) (given .store)

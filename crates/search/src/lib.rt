@@ -79,7 +79,7 @@ fn search_block(
     let threshold = make_first(file, setting, table, sheet, pattern, work, store);
     let mut cones = [0u16; 64];
     choice::write_cones(file, setting.nets, setting.inputs, &mut cones);
-    let found = run::run(
+    let ended = run::run(
         file,
         setting,
         table,
@@ -92,16 +92,17 @@ fn search_block(
         work,
         store,
     );
-    draw::draw_cases(
-        file,
-        setting,
-        table,
-        store,
-        found.cases as usize,
-        sheet,
-        work,
-    );
-    found
+    draw::draw_cases(file, setting, table, store, ended.cases, sheet, work);
+    let quiet = sheet::quiet_tick(sheet, 512);
+    let outcome = ended.outcome;
+    Found {
+        outcome,
+        upper: ended.upper,
+        lower: ended.lower,
+        splits: ended.splits,
+        cases: ended.cases as u64,
+        quiet: quiet as u64,
+    }
 }
 
 // Search: the checks in order, then the best-first search of the block's frame.

@@ -1,6 +1,6 @@
 // The search's loop: the checks before each split, and the split.
 ghost use mathlib.Core.Path.{_≡_};
-ghost use Prim.Native.Nat.{_+_, _*_, _≤_, _<_};
+ghost use Prim.Native.Nat.{_+_, _*_, _≤_};
 ghost use lib.ListN.{length};
 ghost use Rattle.cases.specs.Probes.{ProbesCovered};
 ghost use Rattle.evaluation.specs.Evaluation.{Evaluable};
@@ -9,20 +9,28 @@ ghost use Rattle.search.specs.Steps.{Running, Cones, stateIn, Ran};
 use super::split;
 use cases::store;
 use evaluation::Setting;
-use operation::Found;
 use operation::Outcome;
 use sheet::Word;
 
-// What a search found, with so many cases in the store.
-fn ended(outcome: Outcome, upper: u64, lower: u64, splits: u64, cases: usize) -> Found
+// How a run ended: its outcome, U, L, how many cases were split and how many there are.
+pub struct RunEnd {
+    pub outcome: Outcome,
+    pub upper: u64,
+    pub lower: u64,
+    pub splits: u64,
+    pub cases: usize,
+}
+
+// A run that ended so, which the loop says in three places.
+fn ended(outcome: Outcome, upper: u64, lower: u64, splits: u64, cases: usize) -> RunEnd
     ensures { λ r. ⌜ r ≡ record { outcome = outcome; upper = upper; lower = lower; splits = splits; cases = cases } ⌝ }
 {
-    Found {
+    RunEnd {
         outcome,
         upper,
         lower,
         splits,
-        cases: cases as u64,
+        cases,
     }
 }
 
@@ -39,7 +47,7 @@ pub fn run(
     pattern: &mut [u8],
     work: &mut [u8],
     store: &mut [u8],
-) -> Found
+) -> RunEnd
     requires { ⌜ Evaluable (now file) setting (now sheet) (now work) × Running (setting .inputs) 1 threshold (now store) (now pattern) × Cones (now file) (setting .inputs) (now cones) × (length (now cones) ≡ 64) × (ratio ≤ 10000) × (budget ≤ 10000) × (72 * (1 + 3 * budget) ≤ length (now store)) × ProbesCovered (simulatedDrop (now file) (now table)) (stateIn (setting .inputs) 1 threshold (now store) (now pattern)) ⌝ }
     ensures { λ r. ⌜ Ran (now (file .entry)) setting (now (table .entry)) ratio budget (stateIn (setting .inputs) 1 threshold (now (store .entry)) (now (pattern .entry))) (now (store .entry)) (now (pattern .entry)) r (now (store .exit)) (now (pattern .exit)) ⌝ }
 {

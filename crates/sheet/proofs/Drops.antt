@@ -33,12 +33,12 @@ drop-same table s s′ same =
 pub drop-until : (table : List ℕ) {words : List ℕ} {stop : ℕ} → Droppable stop words
     → dropOf table (sheetIn words) ≡ maxBelow stop (tickDrop table (sheetIn words))
 unfolding dropOf dropAt tickDrop
-drop-until table {words} {stop} quiet =
+drop-until table {words} {stop} droppable =
     max-swap (length table / 16) 512 (dropAt table (sheetIn words))
-    ∙ max-beyond 512 stop _ (quiet .ticks)
+    ∙ max-beyond 512 stop _ (droppable .quiet .ticks)
     (λ t low high.
     let nothing = max-within (length table / 16) (λ node. dropAt table (sheetIn words) node t) 0
-    (λ node _. sum-within 16 _ 0 (λ c h. rw (quiet .quiet c t h low high) (omega arith))) in
+    (λ node _. sum-within 16 _ 0 (λ c h. rw (droppable .quiet .rows c t h low high) (omega arith))) in
     omega arith)
 
 -- No node drops more at a tick than the tick's bound.
@@ -92,7 +92,7 @@ module _ (table words : List ℕ) {stop : ℕ} {given : List ℕ} where
     pub bound-small : n < 16 → ((i : ℕ) → getD table i 0 < resistanceLimit) → Droppable stop words → (t : ℕ) → t < stop
         → withContact sums resistance words start t < dropLimit
     bound-small h resistances droppable t l =
-        let inside = droppable .ticks in
+        let inside = droppable .quiet .ticks in
         let part = drop-part (mostResistance table) (sheetIn words) t (most-resistance-below table resistances) (droppable .most t (omega arith))
         (n + 1) (omega arith) in
         omega (arith, with-next t l)
@@ -124,8 +124,8 @@ drop-none table droppable e = sym (drop-until table droppable ∙ rw e refl)
 
 pub tick-fits : {words : List ℕ} {stop t : ℕ} → Droppable stop words → t < stop → TickFits words t
 tick-fits {t = t} droppable h =
-    let inside = droppable .ticks in
-    record { tick = omega arith; long = droppable .long; most = droppable .most t (omega arith) }
+    let inside = droppable .quiet .ticks in
+    record { tick = omega arith; long = droppable .quiet .long; most = droppable .most t (omega arith) }
 
 -- The ticks, one by one: the greatest of their drops so far, and of the drop `first` of the tick that is worked out first.
 module _ (table words : List ℕ) (first t : ℕ) {most : ℕ} (so-far : most ≡ max first (maxBelow t (tickDrop table (sheetIn words)))) where

@@ -8,7 +8,9 @@ use lib.ListN.{length, getD}
 use lib.Seq.{ext-getD}
 use Rattle.laws.proofs.Pairs.{pairs-at, pairs-list}
 use Rattle.laws.proofs.Turn.{list-at, list-long}
-use Rattle.sheet.specs.Sheet.{Sheet, sheetWords}
+use Rattle.sheet.specs.Sheet.{Sheet, sheetWords, sheetIn, dropOf, quietTick}
+use Rattle.sheet.proofs.Drops.{drop-same}
+use Rattle.sheet.proofs.QuietTick.{quiet-same}
 
 word-at : (s : Sheet) (i : ℕ) → i < 8192 → getD (sheetWords s) i 0 ≡ s (i / 512) (i % 512)
 unfolding sheetWords
@@ -32,6 +34,17 @@ word-is s e i h = ap (λ ws. getD ws i 0) e ∙ word-at s i h
 pub sheet-long : (s : Sheet) {words : List ℕ} → words ≡ sheetWords s → length words ≡ 8192
 unfolding sheetWords
 sheet-long s e = ap length e ∙ list-long 8192 (λ i. s (i / 512) (i % 512))
+
+-- The words that hold a sheet have its currents, its drop and its quiet tick.
+
+pub sheet-held : (s : Sheet) {words : List ℕ} → words ≡ sheetWords s → (c t : ℕ) → c < 16 → t < 512 → sheetIn words c t ≡ s c t
+sheet-held s e c t h l = ap (λ ws. getD ws (512 * c + t) 0) e ∙ sheet-at s c t h l
+
+pub drop-of-words : (table : List ℕ) (s : Sheet) {words : List ℕ} → words ≡ sheetWords s → dropOf table (sheetIn words) ≡ dropOf table s
+drop-of-words table s {words} e = drop-same table (sheetIn words) s (sheet-held s e)
+
+pub quiet-of-words : (s : Sheet) {words : List ℕ} → words ≡ sheetWords s → quietTick (sheetIn words) ≡ quietTick s
+quiet-of-words s {words} e = quiet-same (sheetIn words) s (sheet-held s e)
 
 -- No word of a sheet is above that of a sheet that is nowhere below it.
 pub words-at-most : (s s′ : Sheet) → ((c t : ℕ) → s c t ≤ s′ c t) → (i : ℕ) → getD (sheetWords s) i 0 ≤ getD (sheetWords s′) i 0

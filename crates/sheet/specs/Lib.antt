@@ -1,3 +1,4 @@
 pub mod Sheet
+pub mod Quiet
 pub mod Words
 pub mod Sums

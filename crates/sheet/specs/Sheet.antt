@@ -1,8 +1,10 @@
--- The sheet and its drop (document 01, "Levels and simulation").
+-- The sheet, its drop (document 01, "Levels and simulation") and its quiet tick (request 3).
 use Prim.Native.Nat.{ℕ, _+_, _*_, _/_, _%_}
+use mathlib.Core.Bool.{Bool, not}
 use mathlib.Core.List.{List}
+use lib.Dec.{eqb}
 use lib.ListN.{length, getD}
-use Rattle.laws.specs.Below.{maxBelow, sumBelow}
+use Rattle.laws.specs.Below.{anyBelow, maxBelow, lastBelow, sumBelow}
 use Rattle.laws.specs.Turn.{listBelow}
 
 -- A sheet: the current of each contact at each tick.
@@ -24,3 +26,11 @@ dropAt table sheet node t = sumBelow 16 (λ c. getD table (16 * node + c) 0 * sh
 
 unfoldable pub dropOf : List ℕ → Sheet → ℕ
 dropOf table sheet = maxBelow (length table / 16) (λ node. maxBelow 512 (λ t. dropAt table sheet node t))
+
+-- Whether current flows at tick t: some of the 16 rows is not 0.
+unfoldable pub flowsAt : Sheet → ℕ → Bool
+flowsAt sheet t = anyBelow 16 (λ c. not (eqb (sheet c t) 0))
+
+-- Request 3's quiet tick: the last tick at which some row is not 0, and 0 for an empty sheet.
+unfoldable pub quietTick : Sheet → ℕ
+quietTick sheet = lastBelow 512 (flowsAt sheet)

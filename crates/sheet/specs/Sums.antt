@@ -5,6 +5,7 @@ use mathlib.Core.Path.{_≡_}
 use lib.ListN.{length, getD}
 use Rattle.laws.specs.Below.{maxBelow, sumBelow}
 use Rattle.block.specs.Limits.{blockLimit, dropLimit}
+use Rattle.sheet.specs.Quiet.{QuietFrom}
 use Rattle.sheet.specs.Sheet.{Sheet, dropAt, sheetIn}
 
 -- The greatest resistance of a contact over the nodes.
@@ -21,9 +22,7 @@ tickDrop table sheet t = maxBelow (length table / 16) (λ node. dropAt table she
 
 -- Words of which each row is 0 from tick `stop` on, and whose rows together are no more than all gates of a block draw.
 pub record Droppable (stop : ℕ) (words : List ℕ) : Type 0 where
-  pub ticks : stop ≤ 512
-  pub long : length words ≡ 8192
-  pub quiet : (c t : ℕ) → c < 16 → stop ≤ t → t < 512 → sheetIn words c t ≡ 0
+  pub quiet : QuietFrom stop words
   pub most : (t : ℕ) → t < 512 → sumBelow 16 (λ c. sheetIn words c t) ≤ blockLimit
 
 -- A tick at which the contacts together draw no more than all gates of a block.

@@ -1,15 +1,17 @@
-// The sheet: its words cleared and added to, and its drop. Nothing here knows what draws the currents.
+// The sheet: its words cleared and added to, its drop and its quiet tick. Nothing here knows what draws the currents.
 ghost use mathlib.Core.Path.{_≡_};
 ghost use lib.ListN.{length};
 ghost use Rattle.laws.specs.Rewritten.{Rewritten};
 ghost use Rattle.sheet.specs.Words.{withRow, RowFits, Cleared};
 
 mod drop;
+mod quiet;
 
 // Document 01's word of a sheet, in microamperes.
 pub type Word = u32;
 
 pub use drop::greatest_drop;
+pub use quiet::quiet_tick;
 
 // A sheet with no current.
 pub fn clear(sheet: &mut [Word])

@@ -60,7 +60,7 @@ module _ (given : SimulateArguments) {read : ReadAnswer} (is : read ≡ readOf (
   -- What Simulate promises, by the verdict.
   abbrev Promised : CurrentsAnswer → List ℕ → List ℕ → Verdict → Type 0
   Promised r sheet′ work′ v =
-      (r ≡ answerAfter v (currentsOf (given .file) (given .table) (givenSheet given)))
+      (r ≡ answerAfter v (currentsOf (given .table) (givenSheet given)))
       × (sheet′ ≡ bufferAfter v (sheetWords (givenSheet given)) (given .sheet))
       × WorkAfter v (given .work) work′
 
@@ -78,6 +78,6 @@ module _ (given : SimulateArguments) {read : ReadAnswer} (is : read ≡ readOf (
     argument-refused r said = simulated _ _ _ (by-arguments (given .file) checks (Promised _ _ _) is told checked said (refl, refl, refl))
 
     pub call-accepted : (currents : Currents) (sheet′ work′ : List ℕ) → v ≡ verdict-is.Accepted
-        → Evaluated (given .file) (given .table) (givenSheet given) currents sheet′ → Simulated given (answer.Found currents) sheet′ work′
+        → Evaluated (given .table) (givenSheet given) currents sheet′ → Simulated given (answer.Found currents) sheet′ work′
     call-accepted currents sheet′ work′ said e =
         simulated _ _ _ (by-arguments (given .file) checks (Promised _ _ _) is told checked said (ap answer.Found (e .answered), e .written, tt))

@@ -39,11 +39,11 @@ sheet-single hops file pattern enough =
     ∙ transitions-single hops (waveforms simulation file pattern (netCount file)))
 
 -- An evaluation of single sets, with nothing filled.
-pub singles-evaluated : {file : File} {table words : List ℕ} {answer : Currents} (setting : Setting) (codes : List ℕ) (hops : ℕ) → 128 ≤ hops
-    → Evaluated file table (envelopeSheet hops file (setsIn (setting .inputs) codes)) answer words
+pub singles-evaluated : (file : File) {table words : List ℕ} {answer : Currents} (setting : Setting) (codes : List ℕ) (hops : ℕ) → 128 ≤ hops
+    → Evaluated table (envelopeSheet hops file (setsIn (setting .inputs) codes)) answer words
     → SinglesEvaluated file setting codes table answer words
-singles-evaluated {file} {table} {words} {answer} setting codes hops enough e pattern are =
-    subst (λ sheet. Evaluated file table sheet answer words) (ap (envelopeSheet hops file) are ∙ sheet-single hops file pattern enough) e
+singles-evaluated file {table} {words} {answer} setting codes hops enough e pattern are =
+    subst (λ sheet. Evaluated table sheet answer words) (ap (envelopeSheet hops file) are ∙ sheet-single hops file pattern enough) e
 
 -- The codes of a pattern: their sets have its excitations as their one members.
 module _ {inputs : ℕ} {pattern codes : List ℕ} (coded : PatternCodes inputs pattern codes) where
@@ -63,7 +63,7 @@ module _ {inputs : ℕ} {pattern codes : List ℕ} (coded : PatternCodes inputs 
 -- A pattern is simulated by its codes.
 pub pattern-evaluated : {file : File} {table words : List ℕ} {answer : Currents} (setting : Setting) {pattern codes : List ℕ}
     → AcceptedFile file (setting .nets) (setting .inputs) → PatternCodes (setting .inputs) pattern codes
-    → SinglesEvaluated file setting codes table answer words → Evaluated file table (patternSheet file pattern) answer words
+    → SinglesEvaluated file setting codes table answer words → Evaluated table (patternSheet file pattern) answer words
 pattern-evaluated {file} {table} {words} {answer} setting {pattern} accepted coded e =
-    subst (λ n. Evaluated file table (simulatedSheet file (patternOf n pattern)) answer words) (sym (accepted .input-count))
+    subst (λ n. Evaluated table (simulatedSheet file (patternOf n pattern)) answer words) (sym (accepted .input-count))
     (e _ (pattern-sets coded))

@@ -52,7 +52,7 @@ givenSheet given = patternSheet (given .file) (given .pattern)
 
 -- Simulate's answer: the drop and the quiet tick, or the refusal.
 abbrev pub simulateAnswer : SimulateArguments → CurrentsAnswer
-simulateAnswer given = answerAfter (simulateVerdict given) (currentsOf (given .file) (given .table) (givenSheet given))
+simulateAnswer given = answerAfter (simulateVerdict given) (currentsOf (given .table) (givenSheet given))
 
 -- What Simulate promises: its answer, and each buffer as it leaves it.
 pub record Simulated (given : SimulateArguments) (answer : CurrentsAnswer) (sheet′ work′ : List ℕ) : Type 0 where
@@ -68,4 +68,4 @@ pub record PatternCodes (inputs : ℕ) (pattern codes : List ℕ) : Type 0 where
 -- A simulation of whichever pattern has the codes' sets as its single sets.
 abbrev pub SinglesEvaluated : File → Setting → List ℕ → List ℕ → Currents → List ℕ → Type 0
 SinglesEvaluated file setting codes table answer words =
-    (pattern : List Excitation) → setsIn (setting .inputs) codes ≡ map single pattern → Evaluated file table (simulatedSheet file pattern) answer words
+    (pattern : List Excitation) → setsIn (setting .inputs) codes ≡ map single pattern → Evaluated table (simulatedSheet file pattern) answer words

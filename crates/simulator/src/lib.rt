@@ -92,7 +92,7 @@ fn evaluate_pattern(
     work: &mut [u8],
 ) -> Currents
     requires { ⌜ Evaluable (now file) setting (now sheet) (now work) × (length (now pattern) ≡ 64) ⌝ }
-    ensures { λ r. ⌜ Evaluated (now (file .entry)) (now (table .entry)) (patternSheet (now (file .entry)) (now (pattern .entry))) r (now (sheet .exit)) ⌝ }
+    ensures { λ r. ⌜ Evaluated (now (table .entry)) (patternSheet (now (file .entry)) (now (pattern .entry))) r (now (sheet .exit)) ⌝ }
 {
     let mut codes = [0u8; 64];
     pattern_codes(pattern, setting.inputs, &mut codes);

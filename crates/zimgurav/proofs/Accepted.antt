@@ -22,7 +22,7 @@ use Rattle.simulator.specs.Simulate as simulate
 use Rattle.simulator.proofs.Answers.{simulate-numbered}
 use Rattle.envelope.specs.Envelope as envelope
 use Rattle.envelope.proofs.Answers.{envelope-numbered}
-use Rattle.search.specs.Search.{searchOf, searchVerdict, searchAnswerAfter}
+use Rattle.search.specs.Search.{foundBy, searchVerdict, searchAnswerAfter}
 use Rattle.search.proofs.Accepted.{search-numbered}
 use Rattle.zimgurav.specs.Calls.{benchNumbers}
 use Rattle.zimgurav.specs.Accepted.{refusedWith, ZeroMeansAccepted, AcceptedCalls}
@@ -55,12 +55,12 @@ accepted-calls = record {
       (zero-means-accepted (λ v. benchNumbers (benchAnswerAfter v (netCount (benchRecords given)))) refl (λ r. refl) (benchVerdict given)
       (bench-numbered given));
   envelope = λ given sheet′ work′ numbers call.
-      currents-accepted (envelope.envelopeVerdict given) (currentsOf (given .file) (given .table) (envelope.givenSheet given)) (call .answered)
+      currents-accepted (envelope.envelopeVerdict given) (currentsOf (given .table) (envelope.givenSheet given)) (call .answered)
       (envelope-numbered given);
   simulate = λ given sheet′ work′ numbers call.
-      currents-accepted (simulate.simulateVerdict given) (currentsOf (given .file) (given .table) (simulate.givenSheet given)) (call .answered)
+      currents-accepted (simulate.simulateVerdict given) (currentsOf (given .table) (simulate.givenSheet given)) (call .answered)
       (simulate-numbered given);
   search = λ given sheet′ pattern′ work′ store′ numbers call.
       subst (ZeroMeansAccepted (searchVerdict given)) (sym (call .numbered ∙ ap searchNumbers (call .searched .answered)))
-      (zero-means-accepted (λ v. searchNumbers (searchAnswerAfter v (searchOf given))) refl (λ r. refl) (searchVerdict given) (search-numbered given));
+      (zero-means-accepted (λ v. searchNumbers (searchAnswerAfter v (foundBy given))) refl (λ r. refl) (searchVerdict given) (search-numbered given));
 }

@@ -16,7 +16,7 @@ use Rattle.operation.specs.declared.SearchAnswer.the-variants as search
 use Rattle.evaluation.specs.Evaluation.{currentsOf}
 use Rattle.simulator.specs.Simulate.{SimulateArguments, givenSheet, simulateAnswer, Simulated}
 use Rattle.search.specs.Agreement.{sharing, Agrees}
-use Rattle.search.specs.Search.{SearchArguments, searchOf, searchVerdict, foundBy, searchAnswerAfter, Searched}
+use Rattle.search.specs.Search.{SearchArguments, searchVerdict, foundBy, searchAnswerAfter, Searched}
 use Rattle.search.proofs.Agreement.{agreement}
 use Rattle.zimgurav.specs.Accepted.{refusedWith}
 use Rattle.zimgurav.specs.Agreement.{dropAnswered, quietAnswered, CallsAgree, CallsAgreement}
@@ -30,15 +30,18 @@ simulated-by given call = record { answered = refl; written = call .written; kep
 
 -- An accepted one found the currents of its pattern, and its numbers are theirs.
 module _ (given : SimulateArguments) {sheet′ work′ numbers : List ℕ} (call : SimulateCalled given sheet′ work′ numbers) (zero : refusedWith numbers ≡ 0) where
-  answer-is : simulateAnswer given ≡ currents.Found (currentsOf (given .file) (given .table) (givenSheet given))
+  answer-is : simulateAnswer given ≡ currents.Found (currentsOf (given .table) (givenSheet given))
   answer-is =
-      ap (λ v. answerAfter v (currentsOf (given .file) (given .table) (givenSheet given))) (accepted-calls .simulate given _ _ _ call .zero-means zero)
+      ap (λ v. answerAfter v (currentsOf (given .table) (givenSheet given))) (accepted-calls .simulate given _ _ _ call .zero-means zero)
 
-  found-by : Simulated given (currents.Found (currentsOf (given .file) (given .table) (givenSheet given))) sheet′ work′
+  found-by : Simulated given (currents.Found (currentsOf (given .table) (givenSheet given))) sheet′ work′
   found-by = subst (λ answer. Simulated given answer sheet′ work′) answer-is (simulated-by given call)
 
-  drop-is : dropAnswered numbers ≡ currentsOf (given .file) (given .table) (givenSheet given) .drop
+  drop-is : dropAnswered numbers ≡ currentsOf (given .table) (givenSheet given) .drop
   drop-is = ap dropAnswered (call .answered ∙ ap currentsNumbers answer-is)
+
+  quiet-is : quietAnswered numbers ≡ currentsOf (given .table) (givenSheet given) .quiet
+  quiet-is = ap quietAnswered (call .answered ∙ ap currentsNumbers answer-is)
 
 -- An outcome is known by its number.
 
@@ -62,6 +65,9 @@ numbers-agree given found sheet pattern agrees = record {
   drops-no-more = λ room bytes work simulated work′ told call zero.
       subst (λ drop. drop ≤ found .upper) (sym (drop-is (sharing given room bytes work) call zero))
       (agrees .drops-no-more room bytes work _ simulated work′ (found-by (sharing given room bytes work) call zero));
+  quiet-no-later = λ room bytes work simulated work′ told call zero.
+      subst (λ quiet. quiet ≤ found .quiet) (sym (quiet-is (sharing given room bytes work) call zero))
+      (agrees .quiet-no-later room bytes work _ simulated work′ (found-by (sharing given room bytes work) call zero));
   pattern-chosen = agrees .pattern-chosen;
   pattern-drops = λ room work simulated work′ told sheet-long work-long call.
       (let given′ = sharing given room pattern work in
@@ -85,9 +91,9 @@ numbers-agree given found sheet pattern agrees = record {
 pub calls-agree : CallsAgreement
 calls-agree given sheet′ pattern′ work′ store′ numbers call zero =
     let passed : searchVerdict given ≡ Accepted = accepted-calls .search given _ _ _ _ _ call .zero-means zero in
-    let found-is : call .answer ≡ search.Found (foundBy (searchOf given)) =
-    call .searched .answered ∙ ap (λ v. searchAnswerAfter v (searchOf given)) passed in
-    let searched : Searched given (search.Found (foundBy (searchOf given))) sheet′ pattern′ work′ store′ =
+    let found-is : call .answer ≡ search.Found (foundBy given) =
+    call .searched .answered ∙ ap (λ v. searchAnswerAfter v (foundBy given)) passed in
+    let searched : Searched given (search.Found (foundBy given)) sheet′ pattern′ work′ store′ =
     subst (λ answer. Searched given answer sheet′ pattern′ work′ store′) found-is (call .searched) in
     subst (CallsAgree given sheet′ pattern′) (sym (call .numbered ∙ ap searchNumbers found-is))
-    (numbers-agree given (foundBy (searchOf given)) sheet′ pattern′ (agreement given _ sheet′ pattern′ work′ store′ searched))
+    (numbers-agree given (foundBy given) sheet′ pattern′ (agreement given _ sheet′ pattern′ work′ store′ searched))

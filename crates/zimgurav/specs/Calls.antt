@@ -1,5 +1,5 @@
--- What the calls from C promise (document 01, "List of forms by place", and "What the checker must hold us to", 1; request 1): the eight
--- numbers of the answer, and each buffer as the call leaves it.
+-- What the calls from C promise (document 01, "List of forms by place", and "What the checker must hold us to", 1; requests 1 and 3):
+-- the eight numbers of the answer, and each buffer as the call leaves it.
 use Prim.Native.Nat.{ℕ}
 use mathlib.Core.List.{List, [], _∷_}
 use mathlib.Core.Path.{_≡_}
@@ -17,7 +17,7 @@ use Rattle.search.specs.Search.{SearchArguments, Searched}
 
 -- The version of the calls: a number that goes up with every change of what a call takes, answers or writes.
 abbrev pub version : ℕ
-version = 2
+version = 3
 
 -- Bench: the record count.
 abbrev pub benchNumbers : BenchAnswer → List ℕ

@@ -74,7 +74,7 @@ fn search_numbers(answer: SearchAnswer) -> [u64; 8]
                 found.lower,
                 found.splits,
                 found.cases,
-                0,
+                found.quiet,
                 0,
             ]
         }
@@ -88,7 +88,7 @@ fn search_numbers(answer: SearchAnswer) -> [u64; 8]
 pub extern "C" fn zimgurav_version() -> u64
     ensures { λ r. ⌜ r ≡ version ⌝ }
 {
-    2
+    3
 }
 
 // Read: the file's counts of nets and inputs, or its refusal.
@@ -142,8 +142,8 @@ pub extern "C" fn zimgurav_simulate(
     *answer = currents_numbers(simulator::simulate(file, table, sheet, pattern, work));
 }
 
-// Search: the outcome, U, L, splits and cases of the best-first search, with its sheet, pattern and cases in their buffers, or the
-// refusal.
+// Search: the outcome, U, L, splits and cases of the best-first search and the quiet tick of its final sheet, with its sheet, pattern and
+// cases in their buffers, or the refusal.
 #[no_mangle]
 pub extern "C" fn zimgurav_search(
     file: &[u8],

@@ -3,12 +3,13 @@
 //!
 //! `rust/yardstick/run` measures it beside a third implementation too, where one is at hand.
 
-use check::implementation::{LIBRARY, SECOND};
+use check::implementation::{Implementation, LIBRARY, SECOND};
 use check::measure::{compare_searches, full_blocks};
 
 fn main() {
+    let call = Implementation::search;
     for (name, arguments) in full_blocks() {
-        compare_searches(name, &arguments, &[10], &[LIBRARY, SECOND]);
-        compare_searches(name, &arguments, &[50, 200, 800, 10_000], &[LIBRARY]);
+        compare_searches(name, call, &arguments, &[10], &[LIBRARY, SECOND]);
+        compare_searches(name, call, &arguments, &[50, 200, 800, 10_000], &[LIBRARY]);
     }
 }

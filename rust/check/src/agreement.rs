@@ -2,7 +2,9 @@
 
 use crate::implementation::Implementation;
 use crate::sample::Arguments;
-use zimgurav::{Found, Outcome, Word, CASE_BYTES, PATTERN_BYTES, RECORD_BYTES};
+use zimgurav::{
+    Currents, Found, Outcome, Word, CASE_BYTES, PATTERN_BYTES, RECORD_BYTES, ROW_TICKS,
+};
 
 /// Says what is wrong, in words, where something is.
 fn expect(right: bool, wrong: impl FnOnce() -> String) -> Result<(), String> {
@@ -73,6 +75,16 @@ impl Searched {
         })
     }
 
+    /// The quiet tick is the last at which some row of the sheet is not 0, and 0 if none is.
+    pub fn has_the_quiet_tick_of_its_sheet(&self) -> Result<(), String> {
+        let rows = || self.lent.sheet.chunks_exact(ROW_TICKS);
+        let last = (0..ROW_TICKS).rfind(|&tick| rows().any(|row| row[tick] != 0));
+        let (quiet, last) = (self.found.quiet, last.unwrap_or(0) as u64);
+        expect(quiet == last, || {
+            format!("quiet tick {quiet}, the sheet's is {last}")
+        })
+    }
+
     /// The arguments as the search left them, with an empty case store.
     pub fn without_the_store(&self) -> Arguments {
         Arguments {
@@ -111,11 +123,20 @@ impl Searched {
         Ok(capped)
     }
 
-    /// The pattern draws at most the sheet in each word and drops at most U; it is in exactly one
-    /// case, and drops at most its upper number.
-    pub fn is_above(&self, pattern: &[u8], drop: u64, sheet: &[Word]) -> Result<(), String> {
+    /// The pattern draws at most the sheet in each word, drops at most U and is quiet no later than the
+    /// search; it is in exactly one case, and drops at most its upper number.
+    pub fn is_above(
+        &self,
+        pattern: &[u8],
+        Currents { drop, quiet }: Currents,
+        sheet: &[Word],
+    ) -> Result<(), String> {
         let upper = self.found.upper;
         expect(drop <= upper, || format!("a drop {drop} above U {upper}"))?;
+        let last = self.found.quiet;
+        expect(quiet <= last, || {
+            format!("a quiet tick {quiet} after the search's {last}")
+        })?;
         let mut words = sheet.iter().zip(&self.lent.sheet);
         if let Some(word) = words.position(|(current, ceiling)| current > ceiling) {
             return Err(format!("a current above the sheet at {word}"));

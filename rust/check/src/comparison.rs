@@ -90,6 +90,17 @@ pub mod faults {
         ..SECOND
     };
 
+    /// Simulate answers a quiet tick one too late.
+    pub const LATE_SIMULATION: Implementation = Implementation {
+        name: "late simulation",
+        simulate: |file, table, sheet, pattern, work| {
+            let currents = second::simulate(file, table, sheet, pattern, work)?;
+            let quiet = currents.quiet + 1;
+            Ok(Currents { quiet, ..currents })
+        },
+        ..SECOND
+    };
+
     /// Search clears the last byte of the case store, whatever it answers.
     pub const STORE_CLEARED: Implementation = Implementation {
         name: "store cleared",
@@ -112,6 +123,19 @@ pub mod faults {
             )?;
             let lower = found.lower + 1;
             Ok(Found { lower, ..found })
+        },
+        ..SECOND
+    };
+
+    /// Search answers a quiet tick one too late.
+    pub const LATE_SEARCH: Implementation = Implementation {
+        name: "late search",
+        search: |file, hop_limit, table, ratio, budget, sheet, pattern, work, store| {
+            let found = second::search(
+                file, hop_limit, table, ratio, budget, sheet, pattern, work, store,
+            )?;
+            let quiet = found.quiet + 1;
+            Ok(Found { quiet, ..found })
         },
         ..SECOND
     };
@@ -174,6 +198,10 @@ mod tests {
         let arguments = Arguments::new(&block_s());
         let drop = said(HIGH_DROP, Implementation::envelope, &arguments);
         assert!(drop.starts_with("high drop answers Ok(Currents { drop: 21"));
+        let simulated = said(LATE_SIMULATION, Implementation::simulate, &arguments);
+        assert!(simulated.starts_with("late simulation answers Ok(Currents { drop: 0, quiet: 1 }"));
+        let searched = said(LATE_SEARCH, Implementation::search, &arguments);
+        assert!(searched.contains("cases: 4, quiet: 2 }), second Ok("));
         let inputs = said(INPUT_LOST, Implementation::read, &arguments);
         assert!(inputs.starts_with("input lost answers Ok(Counts { nets: 3, inputs: 0"));
         let count = said(HIGH_COUNT, Implementation::bench, &arguments);

@@ -7,7 +7,7 @@ use std::time::Duration;
 
 use crate::implementation::{Implementation, Operation, LIBRARY, SECOND};
 use crate::sample::{Arguments, Random, Record, Shape};
-use zimgurav::{Currents, Refusal};
+use zimgurav::{Currents, Found, Refusal};
 
 /// The clock of the time for which a thread has run, on x86-64 Linux.
 const CLOCK_THREAD_CPUTIME_ID: i32 = 3;
@@ -110,6 +110,7 @@ pub fn compare_operation<Answer: Copy + PartialEq>(
 /// implementation's to each of the others', and the first one's time for a split.
 pub fn compare_searches(
     name: &str,
+    call: Operation<Found>,
     arguments: &Arguments,
     budgets: &[u64],
     implementations: &[Implementation],
@@ -118,7 +119,6 @@ pub fn compare_searches(
         let arguments = arguments.clone().with_budget(budget);
         let rounds = if budget <= 1_000 { 3 } else { 1 };
         let turns = Turns { rounds, calls: 1 };
-        let call = Implementation::search;
         for (found, times) in medians(&[&arguments], implementations, call, turns) {
             print!("search, {name}, budget {budget}, {}:", found.outcome);
             print_times(implementations, &times);

@@ -518,15 +518,15 @@ mod whole_answer {
     }
 
     /// Both gates draw 257 at tick 1 of their pulse: net 2 from tick 0, net 3 from tick 0 for an
-    /// edge of net 1 and from tick 1 for one of net 2.
+    /// edge of net 1 and from tick 1 for one of net 2. So the last current is at tick 2.
     #[test]
     fn accepted() {
-        assert_eq!(envelope(&mut arguments()), [0, 514, 3, 0, 0, 0, 0, 0]);
-        assert_eq!(search(&mut arguments()), [0, 0, 514, 514, 0, 1, 0, 0]);
+        assert_eq!(envelope(&mut arguments()), [0, 514, 2, 0, 0, 0, 0, 0]);
+        assert_eq!(search(&mut arguments()), [0, 0, 514, 514, 0, 1, 2, 0]);
         let mut lh_and_h = arguments();
         lh_and_h.pattern[..2].copy_from_slice(&[3, 1]);
-        assert_eq!(simulate(&mut lh_and_h), [0, 257, 3, 0, 0, 0, 0, 0]);
-        assert_eq!(simulate(&mut arguments()), [0, 0, 3, 0, 0, 0, 0, 0]);
+        assert_eq!(simulate(&mut lh_and_h), [0, 257, 2, 0, 0, 0, 0, 0]);
+        assert_eq!(simulate(&mut arguments()), [0, 0, 0, 0, 0, 0, 0, 0]);
     }
 
     /// Block S: each outcome, with its number.
@@ -535,13 +535,13 @@ mod whole_answer {
         let rising = |kind| drawing(gate(kind, &[0]), [0, 1, 1, 1], [10, 0]);
         let block = [input(15), rising(BUF), rising(NOT)];
         let mut exact = Arguments::new(&block);
-        assert_eq!(search(&mut exact), [0, 0, 10, 10, 1, 4, 0, 0]);
+        assert_eq!(search(&mut exact), [0, 0, 10, 10, 1, 4, 1, 0]);
         let mut within = Arguments::new(&block).with_budget(0);
         within.ratio = 2_000;
-        assert_eq!(search(&mut within), [0, 1, 20, 10, 0, 1, 0, 0]);
+        assert_eq!(search(&mut within), [0, 1, 20, 10, 0, 1, 1, 0]);
         let mut spent = Arguments::new(&block).with_budget(0);
         spent.ratio = 1_999;
-        assert_eq!(search(&mut spent), [0, 2, 20, 10, 0, 1, 0, 0]);
+        assert_eq!(search(&mut spent), [0, 2, 20, 10, 0, 1, 1, 0]);
     }
 
     /// The answer of a refused call.

@@ -6,9 +6,11 @@ use std::fmt::Debug;
 use check::comparison;
 use check::implementation::{Implementation, Operation, LIBRARY, SECOND};
 use check::measure::full_blocks;
-use check::sample::{damage, lend_random_text, noise, spoil, Arguments, Random, Record, Shape};
+use check::sample::{
+    damage, lend_random_text, lower_peaks, noise, spoil, Arguments, Random, Record, Shape,
+};
 use check::second;
-use zimgurav::{read, Counts, Outcome, Refusal};
+use zimgurav::{read, Counts, Outcome, Refusal, RECORD_BYTES};
 
 const FILES: usize = 240_000;
 
@@ -93,7 +95,16 @@ fn block_of_any_size(random: &mut Random) -> Vec<Record> {
         _ => 1 + random.below(100),
     };
     let shape = Shape::random(random, records);
-    shape.block(random)
+    block_of(random, &shape)
+}
+
+/// A random block of the shape, sometimes with low peaks.
+fn block_of(random: &mut Random, shape: &Shape) -> Vec<Record> {
+    let mut block = shape.block(random);
+    if random.below(4) == 0 {
+        lower_peaks(&mut block);
+    }
+    block
 }
 
 /// Random accepted arguments, of which some are spoilt.
@@ -154,19 +165,45 @@ fn random_envelopes() {
     );
 }
 
+/// The arguments with the greatest peak in place of every other above 0, so that no pulse is rounded to 0.
+fn with_the_greatest_peaks(arguments: &Arguments) -> Arguments {
+    let mut arguments = arguments.clone();
+    for record in arguments.file.as_chunks_mut::<RECORD_BYTES>().0 {
+        for peak in record[14..18].as_chunks_mut::<2>().0 {
+            if *peak != [0, 0] {
+                *peak = [255, 255];
+            }
+        }
+    }
+    arguments
+}
+
 #[test]
 fn random_simulations() {
     let mut random = Random::new(3);
     let mut reached = [0; 19];
+    let mut rounding_mattered = 0;
     for turn in 0..CALLS {
         let arguments = random_arguments(&mut random);
         let answer = compare(Implementation::simulate, &arguments, turn);
         count(&mut reached, answer);
+        if let (Ok(currents), 0) = (answer, turn % 8) {
+            let mut greatest = with_the_greatest_peaks(&arguments);
+            let later = SECOND.simulate(&mut greatest).expect("accepted").quiet;
+            rounding_mattered += usize::from(currents.quiet < later);
+        }
     }
-    println!("accepted, then refusals 1 to 18: {reached:?}");
+    println!(
+        "accepted, then refusals 1 to 18: {reached:?}; \
+         a quiet tick is earlier by rounding {rounding_mattered} times"
+    );
     for number in [0, 12, 15, 16] {
         assert!(reached[number] >= 20, "reached too seldom: {reached:?}");
     }
+    assert!(
+        rounding_mattered >= 10,
+        "rounding mattered {rounding_mattered} times"
+    );
 }
 
 /// A random block for Search: mostly small, since a search makes many evaluations.
@@ -177,7 +214,7 @@ fn block_to_search(random: &mut Random) -> Vec<Record> {
     } else {
         Shape::to_search(random)
     };
-    shape.block(random)
+    block_of(random, &shape)
 }
 
 /// Random arguments of Search, of which some are spoilt. Every buffer holds noise.
@@ -197,6 +234,7 @@ fn random_searches() {
     let mut reached = [0; 19];
     let mut outcomes = [0; 3];
     let mut after_splits = [0; 3];
+    let mut ended_earlier = 0;
     for turn in 0..SEARCHES {
         let arguments = random_search(&mut random);
         let answer = compare(Implementation::search, &arguments, turn);
@@ -204,16 +242,24 @@ fn random_searches() {
         if let Ok(found) = answer {
             outcomes[found.outcome as usize] += 1;
             after_splits[found.outcome as usize] += usize::from(found.splits > 0);
+            let of_the_frame = SECOND.envelope(&mut arguments.clone());
+            let quiet = of_the_frame.expect("accepted").quiet;
+            ended_earlier += usize::from(0 < found.quiet && found.quiet < quiet);
         }
     }
     println!("accepted, then refusals 1 to 18: {reached:?}");
     println!("exact, within, spent: {outcomes:?}, after a split: {after_splits:?}");
+    println!("quiet ticks before the envelope's: {ended_earlier}");
     for number in 11..=15 {
         assert!(reached[number] >= 10, "reached too seldom: {reached:?}");
     }
     assert!(
         after_splits.iter().all(|&times| times >= 50),
         "an outcome came too seldom after a split: {after_splits:?}"
+    );
+    assert!(
+        ended_earlier >= 100,
+        "the sheet hardly ever ended before the envelope's"
     );
 }
 

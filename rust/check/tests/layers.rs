@@ -49,7 +49,7 @@ const CITED: [Named; 11] = [
     },
     Named {
         module: "evaluation.specs.Evaluation",
-        names: &["currentsOf", "quietTick"],
+        names: &["currentsOf"],
         why: "The drop and the quiet tick of Simulate's answer, which the agreement is about.",
     },
     Named {
@@ -408,7 +408,7 @@ fn abbreviations_show_nothing_inside() {
         ("current.specs.Current", "sheetOf"),
         ("sheet.specs.Sheet", "sheetWords"),
         ("sheet.specs.Sheet", "dropOf"),
-        ("evaluation.specs.Evaluation", "quietTick"),
+        ("sheet.specs.Sheet", "quietTick"),
     ] {
         assert_eq!(
             marks(module, shut).as_deref(),

@@ -4,10 +4,12 @@
 
 use check::agreement::Searched;
 use check::implementation::{Implementation, LIBRARY, SECOND};
-use check::sample::{self, gate, input, patterns, peaks, silent, Arguments, Random, Record, Shape};
+use check::sample::{
+    self, drawing, gate, input, patterns, peaks, silent, Arguments, Random, Record, Shape,
+};
 use zimgurav::excitation::{H, HL, L, LH};
-use zimgurav::kind::{AND, BUF, INPUT, NOT, XOR};
-use zimgurav::{Found, Outcome, Word};
+use zimgurav::kind::{AND, BUF, INPUT, NAND, NOT, OR, XOR};
+use zimgurav::{Currents, Found, Outcome, Word, ROW_TICKS};
 
 /// The cases in a store: the sets of each one's inputs, and its upper number.
 type Cases<'a> = [(&'a [u8], u64)];
@@ -18,6 +20,7 @@ struct Expected<'a> {
     upper: u64,
     lower: u64,
     splits: u64,
+    quiet: u64,
     /// The pattern's bytes for the inputs.
     pattern: &'a [u8],
     cases: &'a Cases<'a>,
@@ -50,6 +53,7 @@ fn finds(arguments: &Arguments, expected: &Expected) {
         lower: expected.lower,
         splits: expected.splits,
         cases: expected.cases.len() as u64,
+        quiet: expected.quiet,
     };
     let after = expected.buffers(arguments);
     for implementation in [LIBRARY, SECOND] {
@@ -111,6 +115,7 @@ mod block_s {
         upper: 20,
         lower: 10,
         splits: 0,
+        quiet: 1,
         pattern: &[LH],
         cases: &[(&[15], 20)],
         sheet: &[0, 20],
@@ -123,6 +128,7 @@ mod block_s {
             upper: 10,
             lower: 10,
             splits: 1,
+            quiet: 1,
             pattern: &[LH],
             cases: &[(&[1], 0), (&[2], 0), (&[4], 10), (&[8], 10)],
             sheet: &[0, 10],
@@ -170,16 +176,17 @@ mod block_s {
     /// A set without both edges has nothing to split. The probe is the first allowed of lh, hl, h, l.
     #[test]
     fn with_a_set_of_at_most_one_edge() {
-        let none = [(1, L), (2, H), (3, H)].map(|(set, probe)| (set, probe, 0));
-        let hl = [4, 5, 6, 7].map(|set| (set, HL, 10));
-        let lh = [8, 9, 10, 11].map(|set| (set, LH, 10));
-        for (set, probe, drop) in none.into_iter().chain(hl).chain(lh) {
+        let none = [(1, L), (2, H), (3, H)].map(|(set, probe)| (set, probe, 0, 0));
+        let hl = [4, 5, 6, 7].map(|set| (set, HL, 10, 1));
+        let lh = [8, 9, 10, 11].map(|set| (set, LH, 10, 1));
+        for (set, probe, drop, quiet) in none.into_iter().chain(hl).chain(lh) {
             let block = [&[input(set)], &pair(0)[..]].concat();
             let expected = Expected {
                 outcome: Outcome::Exact,
                 upper: drop,
                 lower: drop,
                 splits: 0,
+                quiet,
                 pattern: &[probe],
                 cases: &[(&[set], drop)],
                 sheet: &[0, drop as Word],
@@ -203,6 +210,7 @@ mod block_s {
                 upper: 10,
                 lower: 10,
                 splits: 1,
+                quiet: 1,
                 pattern: &[LH],
                 cases,
                 sheet: &[0, 10],
@@ -223,13 +231,14 @@ mod block_f {
         arguments
     }
 
-    /// The pattern lh, lh drops as much as the envelope, at tick 2. The sheet is the envelope's.
+    /// The pattern lh, lh drops as much as the envelope, at tick 2. The sheet is the envelope's, with or without
+    /// resistances, and so is the quiet tick.
     #[test]
     fn is_exact_without_a_split() {
         let mut sheet = [0; 512 + 5];
         sheet[..3].copy_from_slice(&[0, 20, 10]);
         sheet[512..].copy_from_slice(&[0, 15, 31, 31, 15]);
-        for (resistances, drop) in [([2, 1], 55), ([1, 1], 41)] {
+        for (resistances, drop) in [([2, 1], 55), ([1, 1], 41), ([0, 0], 0)] {
             for hop_limit in 1..=16 {
                 let arguments = Arguments {
                     hop_limit,
@@ -240,6 +249,7 @@ mod block_f {
                     upper: drop,
                     lower: drop,
                     splits: 0,
+                    quiet: 4,
                     pattern: &[LH, LH],
                     cases: &[(&[15, 15], drop)],
                     sheet: &sheet,
@@ -274,6 +284,7 @@ mod without_gates {
                 upper: 0,
                 lower: 0,
                 splits: 0,
+                quiet: 0,
                 pattern: &probe[..inputs],
                 cases: &[(&sets[..inputs], 0)],
                 sheet: &[],
@@ -301,6 +312,7 @@ mod splits {
             upper: 30,
             lower: 20,
             splits: 1,
+            quiet: 1,
             pattern: &[LH, LH],
             cases,
             sheet: &[0, 30],
@@ -372,6 +384,7 @@ mod splits {
             upper: 30,
             lower: 20,
             splits: 2,
+            quiet: 1,
             pattern: &[LH, LH],
             cases: &[
                 (&[1, 15], 20),
@@ -390,6 +403,7 @@ mod splits {
             upper: 20,
             lower: 20,
             splits: 3,
+            quiet: 1,
             pattern: &[LH, LH],
             cases: &[
                 (&[1, 15], 20),
@@ -419,6 +433,7 @@ mod splits {
             upper: 20,
             lower: 20,
             splits: 1,
+            quiet: 1,
             pattern: &[HL, LH],
             cases: &[(&[4, 1], 10), (&[4, 2], 10), (&[4, 4], 20), (&[4, 8], 20)],
             sheet: &[0, 20],
@@ -440,6 +455,7 @@ mod handed_over {
             upper: 10,
             lower: 10,
             splits: 1,
+            quiet: 1,
             pattern: &[HL],
             cases: &[(&[1], 0), (&[2], 0), (&[4], 10), (&[8], 5)],
             sheet: &[0, 10],
@@ -463,6 +479,7 @@ mod handed_over {
             upper: 10,
             lower: 10,
             splits: 3,
+            quiet: 1,
             pattern: &[HL, LH],
             cases: &[
                 (&[1, 15], 10),
@@ -510,6 +527,7 @@ mod bounds {
             upper: 100,
             lower: 100,
             splits: 0,
+            quiet: 9,
             pattern: &[LH],
             cases: &[(&[8], 100)],
             sheet: &SIMULATED,
@@ -526,6 +544,7 @@ mod bounds {
             upper: 110,
             lower: 100,
             splits: 0,
+            quiet: 9,
             pattern: &[LH, LH],
             cases: &[(&[8, 15], 110)],
             sheet: &FILLED,
@@ -536,6 +555,7 @@ mod bounds {
             upper: 100,
             lower: 100,
             splits: 1,
+            quiet: 9,
             pattern: &[LH, LH],
             cases: &[
                 (&[8, 1], 100),
@@ -561,6 +581,7 @@ mod bounds {
             upper: 200,
             lower: 100,
             splits: 0,
+            quiet: 10,
             pattern: &[LH, LH, LH],
             cases: &[(&[9, 9, 15], 200)],
             sheet: &[0, 0, 10, 10, 10, 10, 10, 10, 10, 200, 10],
@@ -591,6 +612,7 @@ mod bounds {
             upper: 10,
             lower: 0,
             splits: 0,
+            quiet: 1,
             pattern: &[LH],
             cases: &[(&[15], 10)],
             sheet: &[0, 10],
@@ -601,6 +623,7 @@ mod bounds {
             upper: 0,
             lower: 0,
             splits: 1,
+            quiet: 0,
             pattern: &[LH],
             cases: &[(&[1], 0), (&[2], 0), (&[4], 0), (&[8], 0)],
             sheet: &[],
@@ -623,6 +646,7 @@ mod bounds {
             upper: drop(1023),
             lower: drop(512),
             splits: 0,
+            quiet: 1,
             pattern: &[LH],
             cases: &[(&[12], drop(1023))],
             sheet: &[0, 65_535 * 1023],
@@ -642,11 +666,176 @@ mod bounds {
             upper: drop(512),
             lower: drop(512),
             splits: 1,
+            quiet: 1,
             pattern: &[LH],
             cases: &[(&[4], drop(511)), (&[8], drop(512))],
             sheet: &[0, 65_535 * 512],
         };
         finds(&arguments, &exact);
+    }
+}
+
+/// The last tick at which the sheet that the search leaves is not 0.
+mod quiet_ticks {
+    use super::*;
+
+    /// Net 0 makes one of its pair rise at tick 1, contact 0. Only where it is hl, net 4 draws at tick 4, contact 15.
+    /// Net 6 joins a net with itself, which may draw at tick 8, contact 7, in the envelope alone. The pattern handed
+    /// over ends at tick 1.
+    #[test]
+    fn are_of_the_final_sheet() {
+        let more = [
+            silent(gate(BUF, &[0]), 3),
+            drawing(gate(BUF, &[3]), [15, 1, 1, 1], [0, 4]),
+            silent(gate(BUF, &[0]), 7),
+            drawing(gate(XOR, &[5, 5]), [7, 1, 1, 1], [4, 4]),
+        ];
+        let arguments = Arguments::new(&[&[input(15)], &pair(0)[..], &more].concat());
+        let mut sheet = [0; ROW_TICKS * 15 + 5];
+        sheet[1] = 10;
+        sheet[ROW_TICKS * 15 + 4] = 4;
+        let exact = Expected {
+            outcome: Outcome::Exact,
+            upper: 10,
+            lower: 10,
+            splits: 1,
+            quiet: 4,
+            pattern: &[LH],
+            cases: &[(&[1], 0), (&[2], 0), (&[4], 10), (&[8], 10)],
+            sheet: &sheet,
+        };
+        finds(&arguments, &exact);
+        let mut of_the_envelope = sheet;
+        of_the_envelope[1] = 20;
+        of_the_envelope[ROW_TICKS * 7 + 8] = 4;
+        let spent = Expected {
+            outcome: Outcome::Spent,
+            upper: 20,
+            splits: 0,
+            quiet: 8,
+            cases: &[(&[15], 20)],
+            sheet: &of_the_envelope,
+            ..exact
+        };
+        finds(&arguments.with_budget(0), &spent);
+    }
+
+    /// Net 7 joins a net with itself, and may draw at tick 5 as long as net 0 is undecided, which has most gates.
+    #[test]
+    fn are_earlier_after_a_split_that_spends_the_budget() {
+        let more = [
+            silent(gate(BUF, &[0]), 4),
+            peaks(gate(XOR, &[6, 6]), [5, 5]),
+        ];
+        let block = [&[input(15); 2], &pair(0)[..], &pair(1), &more].concat();
+        let arguments = Arguments::new(&block);
+        let whole = Expected {
+            outcome: Outcome::Spent,
+            upper: 40,
+            lower: 20,
+            splits: 0,
+            quiet: 5,
+            pattern: &[LH, LH],
+            cases: &[(&[15, 15], 40)],
+            sheet: &[0, 40, 0, 0, 0, 5],
+        };
+        finds(&arguments.clone().with_budget(0), &whole);
+        let split = Expected {
+            upper: 30,
+            splits: 1,
+            quiet: 1,
+            cases: &[
+                (&[1, 15], 20),
+                (&[2, 15], 20),
+                (&[4, 15], 30),
+                (&[8, 15], 30),
+            ],
+            sheet: &[0, 30],
+            ..whole
+        };
+        finds(&arguments.with_budget(1), &split);
+    }
+
+    /// The last gate rises at tick 3. In the envelope with one hop the gap in which the XOR has no l is filled, so that
+    /// it may rise at tick 6 too, and ticks 4 and 5 are filled. A second input, which feeds nothing, is undecided.
+    #[test]
+    fn are_of_the_simulation_where_every_input_is_decided() {
+        let arguments = |inputs: &[Record]| {
+            let first = inputs.len() as u16;
+            let delayed = [1, 10, 5].map(|delay| silent(gate(BUF, &[0]), delay));
+            let xor = silent(gate(XOR, &[first, first + 1]), 1);
+            let or = peaks(gate(OR, &[first + 3, first + 2]), [10, 0]);
+            Arguments {
+                hop_limit: 1,
+                ..Arguments::new(&[inputs, &delayed, &[xor, or]].concat())
+            }
+        };
+        let decided = Expected {
+            outcome: Outcome::Exact,
+            upper: 10,
+            lower: 10,
+            splits: 0,
+            quiet: 3,
+            pattern: &[LH],
+            cases: &[(&[8], 10)],
+            sheet: &[0, 0, 0, 10],
+        };
+        finds(&arguments(&[input(8)]), &decided);
+        finds(&arguments(&[input(8)]).with_budget(0), &decided);
+        let undecided = Expected {
+            quiet: 6,
+            pattern: &[LH, LH],
+            cases: &[(&[8, 15], 10)],
+            sheet: &[0, 0, 0, 10, 10, 10, 10],
+            ..decided
+        };
+        let arguments = arguments(&[input(8), input(15)]);
+        finds(&arguments, &undecided);
+        finds(&arguments.with_budget(0), &undecided);
+    }
+
+    /// Arrival 255, and a delay of 1: the pulse starts at tick 254 and has 1 at tick 507, the last before its end.
+    #[test]
+    fn are_at_most_507() {
+        let mut block = vec![input(15)];
+        for (pin, delay) in (0..).zip([63, 63, 63, 63, 2]) {
+            block.push(silent(gate(BUF, &[pin]), delay));
+        }
+        block.push(drawing(gate(BUF, &[5]), [15, 1, 127, 127], [127, 0]));
+        let mut sheet = vec![0; ROW_TICKS * 15 + 254];
+        sheet.extend((0..=127).chain((1..127).rev()));
+        let expected = Expected {
+            outcome: Outcome::Exact,
+            upper: 127,
+            lower: 127,
+            splits: 0,
+            quiet: 507,
+            pattern: &[LH],
+            cases: &[(&[15], 127)],
+            sheet: &sheet,
+        };
+        finds(&Arguments::new(&block), &expected);
+    }
+
+    #[test]
+    fn are_0_where_no_gate_has_a_peak() {
+        let block = [
+            input(15),
+            input(15),
+            drawing(gate(NAND, &[0, 1]), [0, 1, 127, 127], [0, 0]),
+            drawing(gate(XOR, &[2, 1]), [15, 63, 127, 127], [0, 0]),
+        ];
+        let expected = Expected {
+            outcome: Outcome::Exact,
+            upper: 0,
+            lower: 0,
+            splits: 0,
+            quiet: 0,
+            pattern: &[LH, LH],
+            cases: &[(&[15, 15], 0)],
+            sheet: &[],
+        };
+        finds(&Arguments::new(&block), &expected);
     }
 }
 
@@ -699,6 +888,7 @@ mod agreement {
     /// What each search has to satisfy by itself.
     fn is_right(searched: &Searched) -> Result<(), String> {
         searched.has_the_right_outcome()?;
+        searched.has_the_quiet_tick_of_its_sheet()?;
         searched.hands_over_a_pattern(&SECOND)?;
         searched.has_the_greatest_upper_number()
     }
@@ -717,7 +907,7 @@ mod agreement {
     fn with_every_pattern() {
         let mut random = Random::new(8);
         let mut outcomes = [0; 3];
-        let mut patterns_below = 0;
+        let (mut patterns_below, mut quiet_before) = (0, 0);
         for _ in 0..200 {
             let block = small_block(&mut random);
             let searches = two_searches(&mut random, &block);
@@ -728,16 +918,23 @@ mod agreement {
             let mut under = searches[0].lent.clone();
             for pattern in patterns(&block) {
                 under.pattern[..pattern.len()].copy_from_slice(&pattern);
-                let drop = SECOND.simulate(&mut under).expect("accepted").drop;
+                let currents = SECOND.simulate(&mut under).expect("accepted");
+                let Currents { drop, quiet } = currents;
                 for searched in &searches {
-                    assert_eq!(searched.is_above(&pattern, drop, &under.sheet), Ok(()));
-                    patterns_below += usize::from(0 < drop && drop < searched.found.upper);
+                    let Found {
+                        upper, quiet: last, ..
+                    } = searched.found;
+                    assert_eq!(searched.is_above(&pattern, currents, &under.sheet), Ok(()));
+                    patterns_below += usize::from(0 < drop && drop < upper);
+                    quiet_before += usize::from(0 < quiet && quiet < last);
                 }
             }
         }
-        println!("exact, within, spent: {outcomes:?}, drops below U: {patterns_below}");
+        println!("exact, within, spent: {outcomes:?}");
+        println!("drops below U: {patterns_below}, earlier quiet ticks: {quiet_before}");
         assert!(outcomes.iter().all(|&times| times >= 20), "{outcomes:?}");
         assert!(patterns_below >= 1_000, "U is hardly ever above a drop");
+        assert!(quiet_before >= 1_000, "a pattern hardly ever ends before");
     }
 
     /// With N patterns a budget of N - 1 is never spent. With fewer than the splits that the library

@@ -7,7 +7,7 @@ use check::repository::text;
 use check::trace::{code, rows, Row, PARTS};
 
 /// The headings of document 01 that say what binds us, and the change requests.
-const HEADINGS: [&str; 13] = [
+const HEADINGS: [&str; 14] = [
     "The block file",
     "Refusals in checking order",
     "Excitations and sets",
@@ -21,6 +21,7 @@ const HEADINGS: [&str; 13] = [
     "What the checker must hold us to",
     "Request 1: bench netlists",
     "Request 2: one pass for both edges",
+    "Request 3: the quiet tick to the tick",
 ];
 
 /// The names of a row that are nowhere, and items with a name but no kind, whose names nobody looks up.

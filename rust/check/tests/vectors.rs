@@ -115,13 +115,16 @@ impl<'a> Vector<'a> {
             let name = implementation.name;
             let mut lent = arguments.clone();
             let answer = implementation.search(&mut lent);
-            if let [word, upper, lower, splits, cases, pattern, sheet, store] = self.answer[..] {
+            if let [word, upper, lower, splits, cases, quiet, pattern, sheet, store] =
+                self.answer[..]
+            {
                 let expected = Found {
                     outcome: outcome(word),
                     upper: decimal(upper),
                     lower: decimal(lower),
                     splits: decimal(splits),
                     cases: decimal(cases),
+                    quiet: decimal(quiet),
                 };
                 assert_eq!(answer, Ok(expected), "{name}, {at}");
                 assert_eq!(lent.pattern, bytes(pattern), "{name}'s pattern, {at}");

@@ -12,7 +12,7 @@ use Rattle.excitation.specs.UncertaintySet.{setsIn}
 use Rattle.block.proofs.Accepted.{has-record}
 use Rattle.evaluation.specs.Evaluation.{HasRows}
 use Rattle.evaluation.proofs.Drawing.{Evaluating, next-checked, next-ready, next-arrives, next-drawable, next-evaluated, all-evaluated, inputs-evaluated}
-use Rattle.evaluation.proofs.Quiet.{lastFlow, settling-is, inputs-flow, next-flow}
+use Rattle.evaluation.proofs.Settling.{netSettling, settling-is, inputs-settling, next-settling}
 use Rattle.evaluation.proofs.Rows.{has-row}
 use Rattle.evaluation.proofs.draw.Statement.{statement}
 use Rattle.evaluation.proofs.draw.Tie as tie
@@ -21,7 +21,7 @@ abbrev Inv-loop : tie.InvT-loop
 Inv-loop file setting codes sheet₀ work₀ joins settling₀ net₀ sheet work settling net =
     (setting .inputs ≤ net) × (net ≤ setting .nets) × (length work ≡ length work₀)
     × Evaluating file (setting .hops) (setsIn (setting .inputs) codes) net work sheet
-    × (settling ≡ maxBelow net (lastFlow file)) × (settling < 511)
+    × (settling ≡ maxBelow net (netSettling file)) × (settling < 511)
 
 abbrev μ-loop : tie.MeasureT-loop
 μ-loop file setting codes sheet₀ work₀ joins settling₀ net₀ sheet work settling net = setting .nets - net
@@ -53,7 +53,7 @@ loop-holds c =
       g .accepted .inputs-first,
       refl,
       inputs-evaluated file (setting .nets) (setting .inputs) (g .accepted) (setting .hops) (s .args .codes .now) made cleared,
-      sym (inputs-flow file (setting .nets) (setting .inputs) (g .accepted)),
+      sym (inputs-settling file (setting .nets) (setting .inputs) (g .accepted)),
       omega arith,
     )
 
@@ -147,12 +147,12 @@ loop-again c =
     let read = c .before .before .before .before .before .before .before .before .before .before .before .before .before .before .gate .ensures in
     let made = c .before .before .before .before .before .before .before .before .before .before .before .gate-waveform .ensures in
     let arrives = c .before .before .arrival .ensures .0 ∙ next-arrives file (setting .nets) (setting .inputs) (g .accepted) (setting .hops) sets (l .inv .3) (l .inv .1) (l .inv .0) here read (made .0) in
-    let flow = next-flow file (setting .nets) (setting .inputs) (g .accepted) (l .net) (l .inv .0) here read arrives (c .before .last-pulse-end .ensures) in (
+    let flow = next-settling file (setting .nets) (setting .inputs) (g .accepted) (l .net) (l .inv .0) here read arrives (c .before .last-pulse-end .ensures) in (
       omega arith,
       omega arith,
       made .0 .others .long ∙ l .inv .2,
       next-evaluated file (setting .nets) (setting .inputs) (g .accepted) (setting .hops) sets (l .inv .3) (l .inv .1) (l .inv .0) here read (made .0) (c .before .before .before .before .before .before .draw-gate .ensures),
-      c .max-usize .ensures ∙ rw (l .inv .4, flow .0) (sym (max-next (l .net) (lastFlow file))),
+      c .max-usize .ensures ∙ rw (l .inv .4, flow .0) (sym (max-next (l .net) (netSettling file))),
       omega (arith, c .max-usize .ensures, flow .1),
     )
 
@@ -174,7 +174,7 @@ returns c =
     record {
       sheet = all-evaluated file (setting .nets) (setting .inputs) (g .accepted) (setting .hops) _ done;
       most = λ t h. omega (arith, done .most t h, g .accepted .few-nets);
-      settled = l .inv .4 ∙ ap (λ n. maxBelow n (lastFlow file)) (e ∙ sym (g .accepted .net-count)) ∙ settling-is file;
+      settled = l .inv .4 ∙ ap (λ n. maxBelow n (netSettling file)) (e ∙ sym (g .accepted .net-count)) ∙ settling-is file;
       soon = l .inv .5;
     }
 

@@ -1,10 +1,8 @@
 -- `evaluation::evaluate` meets its contract.
 -- Assumes nothing.
-use Prim.Native.Nat.{_+_}
 use native.Mathlib.Omega.{arith}
 use borrow.Author.Needs.{needs}
-use Rattle.excitation.specs.UncertaintySet.{setsIn}
-use Rattle.evaluation.proofs.Quiet.{words-quiet, evaluated}
+use Rattle.evaluation.proofs.Settling.{drawn-quiet, evaluated}
 use Rattle.evaluation.proofs.evaluate.Statement.{statement}
 use Rattle.evaluation.proofs.evaluate.Tie as tie
 
@@ -16,11 +14,17 @@ add-greatest-drop c = search needs
 
 greatest-drop-requires : tie.Need-greatest-drop-requires
 greatest-drop-requires c κs =
-    let s = c .before .before .before .before .before .before .before .before .before .before .before .before .before in
-    let setting = s .args .setting in
+    let accepted = c .before .before .before .before .before .before .before .before .before .before .before .before .before .pre .0 .accepted in
     let drawn = c .before .before .before .before .before .draw .ensures in
-    words-quiet (s .args .file .now) (setting .nets) (setting .inputs) (s .pre .0 .accepted) (setting .hops) (setsIn (setting .inputs) (s .args .codes .now))
-    (drawn .sheet) (c .before .before .before .before .before .draw .result + 1) (omega (arith, drawn .settled)) (omega (arith, drawn .soon)) (drawn .most)
+    record { quiet = drawn-quiet accepted drawn; most = drawn .most }
+
+add-quiet-tick : tie.Need-add-quiet-tick
+add-quiet-tick c = search needs
+
+quiet-tick-requires : tie.Need-quiet-tick-requires
+quiet-tick-requires c κs =
+    drawn-quiet (c .before .before .before .before .before .before .before .before .before .before .before .before .before .before .before .pre .0 .accepted)
+    (c .before .before .before .before .before .before .before .draw .ensures)
 
 same-length : tie.Need-same-length
 same-length c = search needs
@@ -29,7 +33,9 @@ same-length-2 : tie.Need-same-length-2
 same-length-2 c = search needs
 
 returns : tie.Need-returns
-returns c = evaluated (c .before .before .before .before .before .before .draw .ensures) (c .greatest-drop .ensures) (λ i. omega (arith, c .before .before .before .before .before .before .before .before .before .before .before .shared-slice-known3 .given i))
+returns c =
+    evaluated (c .before .before .before .before .before .before .before .before .draw .ensures) (c .before .before .greatest-drop .ensures) (c .quiet-tick .ensures)
+    (λ i. omega (arith, c .before .before .before .before .before .before .before .before .before .before .before .before .before .shared-slice-known3 .given i))
 
 pub evaluate-spec : {M : Type 1} → statement M
 evaluate-spec =
@@ -38,6 +44,8 @@ evaluate-spec =
     draw-requires
     add-greatest-drop
     greatest-drop-requires
+    add-quiet-tick
+    quiet-tick-requires
     same-length
     same-length-2
     returns)

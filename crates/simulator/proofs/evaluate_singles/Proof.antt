@@ -18,7 +18,7 @@ same-length-2 : tie.Need-same-length-2
 same-length-2 c = search needs
 
 returns : tie.Need-returns
-returns c = let s = c .before .before .before .before .before .before .before .before .before .before .before .before in singles-evaluated (s .args .setting) (s .args .codes .now) 128 (omega arith) (c .before .before .before .before .evaluate .ensures)
+returns c = let s = c .before .before .before .before .before .before .before .before .before .before .before .before in singles-evaluated (s .args .file .now) (s .args .setting) (s .args .codes .now) 128 (omega arith) (c .before .before .before .before .evaluate .ensures)
 
 pub evaluate-singles-spec : {M : Type 1} → statement M
 evaluate-singles-spec = tie.close (tie.spec evaluate-requires same-length same-length-2 returns)

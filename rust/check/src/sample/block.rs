@@ -55,6 +55,15 @@ pub fn silent(gate: Record, delay: u8) -> Record {
     drawing(gate, [0, delay, 1, 1], [0, 0])
 }
 
+/// Lowers the peaks of the gates below 16, so that many a pulse is rounded to 0 before it ends.
+pub fn lower_peaks(block: &mut [Record]) {
+    for gate in block.iter_mut().filter(|record| record[0] != INPUT) {
+        for peak in gate[14..18].as_chunks_mut().0 {
+            *peak = [peak[0] % 16, 0];
+        }
+    }
+}
+
 /// Document 01's block S: an input of set 15, BUF and NOT of it.
 pub fn block_s() -> Vec<Record> {
     let drawn = |kind| peaks(gate(kind, &[0]), [10, 0]);

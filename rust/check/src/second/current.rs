@@ -1,6 +1,6 @@
 //! Currents: pulses, the sheet, the drop and the quiet tick.
 
-use super::block::{arrival, Record};
+use super::block::Record;
 use super::excitation::{Excitation, Signal};
 use super::waveform::Waveform;
 use zimgurav::{Currents, Word};
@@ -31,7 +31,7 @@ pub fn write_currents<S: Signal>(
     }
     Currents {
         drop: drop(&contacts, table),
-        quiet: quiet_tick(records),
+        quiet: quiet_tick(sheet),
     }
 }
 
@@ -105,17 +105,15 @@ fn drop(contacts: &[Row], table: &[u16]) -> u64 {
     greatest
 }
 
-/// The quiet tick: the greatest arrival − D + r + f of a gate, 0 without gates.
-fn quiet_tick(records: &[Record]) -> u64 {
-    let mut arrivals = Vec::new();
+/// The quiet tick: the last tick at which some row of the sheet is not 0, and 0 for an
+/// empty sheet.
+pub fn quiet_tick(sheet: &[Word]) -> u64 {
     let mut quiet = 0;
-    for record in records {
-        let arrival = arrival(record, &arrivals);
-        arrivals.push(arrival);
-        if record.is_gate() {
-            let start = arrival - u16::from(record.delay);
-            let end = start + u16::from(record.rise) + u16::from(record.fall);
-            quiet = quiet.max(u64::from(end));
+    for row in sheet.chunks_exact(ROW_TICKS) {
+        for (tick, &current) in (0..).zip(row) {
+            if current != 0 {
+                quiet = quiet.max(tick);
+            }
         }
     }
     quiet
@@ -144,5 +142,25 @@ mod tests {
         assert_eq!(longest.len(), 255);
         assert_eq!(longest[126..=128], [65_018, 65_535, 65_018]);
         assert_eq!(pulse(0, 1, 1), [0, 0, 0]);
+    }
+
+    /// The quiet tick of a sheet with a current of 1 at each of these contacts and ticks.
+    fn quiet_tick_of(currents: &[(usize, usize)]) -> u64 {
+        let mut sheet = vec![0; SHEET_WORDS];
+        for (contact, tick) in currents {
+            sheet[ROW_TICKS * contact + tick] = 1;
+        }
+        quiet_tick(&sheet)
+    }
+
+    #[test]
+    fn quiet_tick_is_the_last_of_all_rows() {
+        assert_eq!(quiet_tick_of(&[]), 0);
+        assert_eq!(quiet_tick_of(&[(3, 1), (3, 200)]), 200);
+        assert_eq!(quiet_tick_of(&[(0, 9), (7, 3), (15, 4)]), 9);
+        assert_eq!(quiet_tick_of(&[(0, 3), (7, 9), (15, 4)]), 9);
+        assert_eq!(quiet_tick_of(&[(0, 3), (7, 4), (15, 9)]), 9);
+        assert_eq!(quiet_tick_of(&[(0, 511), (15, 1)]), 511);
+        assert_eq!(quiet_tick_of(&[(0, 1), (15, 511)]), 511);
     }
 }

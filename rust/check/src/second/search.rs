@@ -1,13 +1,13 @@
 //! Search: takes file, hop limit, table, ratio, budget, sheet, pattern, work
-//! buffer and case store, and returns outcome, U, L, splits and cases, or the first
-//! refusal of document 01 that applies.
+//! buffer and case store, and returns outcome, U, L, splits, cases and quiet tick, or
+//! the first refusal of document 01 that applies.
 
 use super::arguments::{
     check_budget, check_hop_limit, check_pattern_length, check_ratio, check_sheet, check_store,
     check_table, check_work,
 };
 use super::block::{cone, records, Record};
-use super::current::SHEET_WORDS;
+use super::current::{quiet_tick, SHEET_WORDS};
 use super::envelope::write_envelope;
 use super::excitation::Excitation;
 use super::frame::Frame;
@@ -61,6 +61,7 @@ pub fn search(
         lower: search.lower(),
         splits: search.splits,
         cases: search.cases.len() as u64,
+        quiet: quiet_tick(sheet),
     })
 }
 

@@ -1,8 +1,8 @@
 //! Random calls, each short enough for the second implementation.
 
 use crate::sample::{
-    block_with_a_cap, block_with_gaps, damage, lend_random_text, noise, spoil, Arguments, Random,
-    Record, Shape,
+    block_with_a_cap, block_with_gaps, damage, lend_random_text, lower_peaks, noise, spoil,
+    Arguments, Random, Record, Shape,
 };
 use zimgurav::kind::INPUT;
 use zimgurav::{store_bytes, MOST_BUDGET, RECORD_BYTES};
@@ -17,7 +17,10 @@ const EVALUATIONS_OF_A_SPLIT: u64 = 12;
 
 /// A random block, the arguments of a call and a bench text: mostly valid, sometimes damaged or spoilt.
 pub fn random_call(random: &mut Random) -> Arguments {
-    let block = random_block(random);
+    let mut block = random_block(random);
+    if random.below(4) == 0 {
+        lower_peaks(&mut block);
+    }
     let budget = random.pick(&[7, 7, 20, 20, 60, 60, 60, 60, 60, 60, 400, 400, 400, 10_000]);
     let mut arguments = Arguments::random_up_to(budget, random, &block);
     while random.below(4) == 0 {

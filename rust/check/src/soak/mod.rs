@@ -138,8 +138,8 @@ fn read_again(
     }
 }
 
-/// An accepted search has the right outcome, hands over a pattern that drops L, and is above random
-/// patterns.
+/// An accepted search has the right outcome and quiet tick, hands over a pattern that drops L, and is above
+/// random patterns.
 fn hold_against_simulations(
     implementation: &Implementation,
     searched: &Searched,
@@ -148,6 +148,7 @@ fn hold_against_simulations(
 ) -> Result<(), String> {
     searched.has_the_right_outcome()?;
     searched.has_the_greatest_upper_number()?;
+    searched.has_the_quiet_tick_of_its_sheet()?;
     searched.hands_over_a_pattern(implementation)?;
     coverage.capped += searched.capped_cases(implementation)?;
     let (block, _) = searched.lent.file.as_chunks::<RECORD_BYTES>();
@@ -158,8 +159,8 @@ fn hold_against_simulations(
             *byte = random.pick(&allowed(input));
         }
         let currents = implementation.simulate(&mut lent);
-        let drop = currents.map_err(|refusal| format!("{refusal}"))?.drop;
-        searched.is_above(&lent.pattern[..inputs().count()], drop, &lent.sheet)?;
+        let currents = currents.map_err(|refusal| format!("{refusal}"))?;
+        searched.is_above(&lent.pattern[..inputs().count()], currents, &lent.sheet)?;
         coverage.patterns += 1;
     }
     Ok(())
@@ -184,8 +185,10 @@ mod tests {
             (faults::INPUT_LOST, "Read: "),
             (faults::HIGH_DROP, "Envelope: "),
             (faults::SHEET_UNTOUCHED, "Simulate: "),
+            (faults::LATE_SIMULATION, "Simulate: "),
             (faults::STORE_CLEARED, "Search: "),
             (faults::HIGH_LOWER, "Search: "),
+            (faults::LATE_SEARCH, "Search: "),
             (faults::HIGH_COUNT, "Bench: "),
             (faults::RECORDS_CLEARED, "Bench: "),
         ];
@@ -201,9 +204,15 @@ mod tests {
     /// Two implementations that are wrong in the same way agree, but not with the simulations or with Read.
     #[test]
     fn finds_a_common_fault() {
-        let (_, found) = soak(&[faults::HIGH_LOWER; 2], 1, 0..60, HOUR);
-        let seen = found.expect("a difference").seen;
-        assert!(seen.starts_with("Search against Simulate: "), "{seen}");
+        for wrong in [
+            faults::HIGH_LOWER,
+            faults::LATE_SEARCH,
+            faults::LATE_SIMULATION,
+        ] {
+            let (_, found) = soak(&[wrong; 2], 1, 0..60, HOUR);
+            let seen = found.expect(wrong.name).seen;
+            assert!(seen.starts_with("Search against Simulate: "), "{seen}");
+        }
         let (_, found) = soak(&[faults::HIGH_COUNT; 2], 1, 0..60, HOUR);
         let seen = found.expect("a difference").seen;
         assert!(seen.starts_with("Bench against Read: "), "{seen}");

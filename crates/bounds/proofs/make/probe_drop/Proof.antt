@@ -27,7 +27,7 @@ same-length-2 : tie.Need-same-length-2
 same-length-2 c = search needs
 
 returns : tie.Need-returns
-returns c = let s = c .before .before .before .before .before .before .before .before .before .before .before .before .before .before .before .before in probe-simulated (s .args .setting) (s .args .codes .now) (c .before .before .before .before .before .before .before .before .before .write-probe-codes .ensures) (c .before .before .before .before .evaluate-singles .ensures)
+returns c = let s = c .before .before .before .before .before .before .before .before .before .before .before .before .before .before .before .before in probe-simulated (s .args .file .now) (s .args .setting) (s .args .codes .now) (c .before .before .before .before .before .before .before .before .before .write-probe-codes .ensures) (c .before .before .before .before .evaluate-singles .ensures)
 
 pub probe-drop-spec : {M : Type 1} → statement M
 probe-drop-spec =

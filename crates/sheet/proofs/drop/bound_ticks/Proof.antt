@@ -34,8 +34,8 @@ add-contact-requires c κs =
     let loop = c .before .before .before .loop in
     record {
       long = omega (arith, loop .inv .1 .long, ap length (start .pre .1));
-      sheet-long = start .pre .0 .long;
-      in-row = start .pre .0 .ticks;
+      sheet-long = start .pre .0 .quiet .long;
+      in-row = start .pre .0 .quiet .ticks;
       place = omega arith;
       small = bound-small (start .args .table .now) (start .args .sheet .now) _ (loop .contact) (loop .inv .1) (c .before .most-resistance .ensures) (omega arith) (omega arith)
           (λ i. omega (arith, c .before .before .before .before .before .before .shared-slice-known .given i)) (start .pre .0);
