@@ -45,7 +45,7 @@ extern "C" {
 
 /* The version of the calls. It goes up with every change of what a call takes, answers or writes: two builds of one
  * version give the same answers, sheets, patterns, stores and records. */
-#define ZIMGURAV_VERSION 3
+#define ZIMGURAV_VERSION 4
 
 /* The version of the linked library, which has to be ZIMGURAV_VERSION. */
 uint64_t zimgurav_version(void);

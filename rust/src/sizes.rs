@@ -5,7 +5,7 @@
 /// It goes up with every change of what a call takes, answers or writes: two builds of one version
 /// give the same answers, sheets, patterns, stores and records. [`version`](crate::version) is that of
 /// the linked library, which has to be this one.
-pub const VERSION: u64 = 3;
+pub const VERSION: u64 = 4;
 
 /// A word of a sheet: a current in microamperes.
 pub type Word = u32;

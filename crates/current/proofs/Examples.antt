@@ -17,12 +17,14 @@ use Rattle.waveform.specs.Waveform.{earlier, inputWaveform, gateFrom, pinWavefo
 use Rattle.current.specs.Current.{ticksWhere, greatestAt, gateCurrent, drawsAt, part, contactCurrent, transitionsOf, sheetOf}
 use Rattle.current.specs.Examples.{CurrentExamples}
 use Rattle.current.specs.Pulse.{levelAfter, pulse, pulseAt}
+use Rattle.current.specs.Rounding.{evenOf, nearest}
 
 pub current-examples : CurrentExamples
-unfolding anyBelow maxBelow lastBelow sumBelow countBelow inTurn listBelow member decode joinSets each isInput gateOf kindOf gateValue switchingTick inputsBelow frame extend runsFrom gapsAfter gaps shorter shortest close closeFirst closeShortest closeWhile merged inside holding ticksInside fillTicks setsHolding filled earlier inputWaveform gateFrom pinWaveform gateAt gateWaveform netWaveform waveforms levelAfter pulse pulseAt ticksWhere greatestAt gateCurrent drawsAt part contactCurrent dropAt dropOf flowsAt quietTick transitionsOf sheetOf
+unfolding anyBelow maxBelow lastBelow sumBelow countBelow inTurn listBelow member decode joinSets each isInput gateOf kindOf gateValue switchingTick inputsBelow frame extend runsFrom gapsAfter gaps shorter shortest close closeFirst closeShortest closeWhile merged inside holding ticksInside fillTicks setsHolding filled earlier inputWaveform gateFrom pinWaveform gateAt gateWaveform netWaveform waveforms evenOf nearest levelAfter pulse pulseAt ticksWhere greatestAt gateCurrent drawsAt part contactCurrent dropAt dropOf flowsAt quietTick transitionsOf sheetOf
 current-examples = record {
   pulse-31 = refl;
   pulse-7 = λ f. refl;
+  half-33 = refl;
   envelope-0 = refl;
   envelope-1 = refl;
   both-lh = refl;

@@ -1,4 +1,5 @@
 pub mod Examples
+pub mod Rounding
 pub mod Levels
 pub mod Pulses
 pub mod Rows

@@ -1,15 +1,17 @@
--- Laws of a pulse: it rises to its peak, falls after it and ends. Nothing else opens its rounding.
+-- Laws of a pulse: it rises to its peak, falls after it and ends. Nothing else opens its level but `level-by`, for the code.
 -- Assumes nothing.
-use Prim.Native.Nat.{ℕ, _+_, _*_, _/_, _-_, _≤_, _<_}
+use Prim.Native.Nat.{ℕ, _+_, _*_, _-_, _≤_, _<_}
 use mathlib.Core.Path.{_≡_, refl, sym, ap, _∙_}
-use native.Mathlib.Nat.{le-div-iff-mul-le, div-mul-le-self, mul-le-mul-left, mul-le-mul-right, le-refl, le-trans, mul-div-cancel, zero-div, div-le-of-le-mul}
+use native.Mathlib.Nat.{mul-le-mul-left, mul-le-mul-right, le-refl}
 use native.Mathlib.Omega.{arith}
 use lib.Dec.{leb, ltb, eqb}
 use borrow.Author.Tests.{le-leb, lt-leb, leb-true, leb-false, ltb-false, le-ltb, eqb-true, eqb-false}
 use borrow.Table.Steps.{cases}
 use Rattle.current.specs.Levels.{InRange, levelBy, Factored}
 use Rattle.current.specs.Pulse.{levelAfter, pulse, pulseAt}
+use Rattle.current.specs.Rounding.{nearest, NearestEven}
 use Rattle.current.proofs.Levels.{level-by}
+use Rattle.current.proofs.Rounding.{nearest-none, nearest-whole, nearest-grows, nearest-right}
 
 -- A pulse by its parts.
 
@@ -25,29 +27,34 @@ pulse-over : (P r f k : ℕ) → r + f < k → pulse P r f k ≡ 0
 unfolding pulse
 pulse-over P r f k l = rw (lt-leb k r (omega arith), lt-leb k (r + f) l)
 
+-- The level is the nearest whole number, an exact half going to the even one.
+pub level-nearest : (P steps j : ℕ) → 1 ≤ steps → NearestEven (P * j) steps (levelAfter P steps j)
+unfolding levelAfter
+level-nearest P steps j one = nearest-right (P * j) steps one
+
 -- How the level goes with the steps and with the peak.
 
 level-rises : (P steps : ℕ) {j k : ℕ} → 1 ≤ steps → j ≤ k → levelAfter P steps j ≤ levelAfter P steps k
 unfolding levelAfter
-level-rises P steps {j} {k} one h = le-div-iff-mul-le one .1 (le-trans (div-mul-le-self (P * j) steps) (mul-le-mul-left P h))
+level-rises P steps {j} {k} one h = nearest-grows steps one (mul-le-mul-left P h)
 
 level-grows : {P Q : ℕ} (steps j : ℕ) → 1 ≤ steps → P ≤ Q → levelAfter P steps j ≤ levelAfter Q steps j
 unfolding levelAfter
-level-grows {P} {Q} steps j one h = le-div-iff-mul-le one .1 (le-trans (div-mul-le-self (P * j) steps) (mul-le-mul-right j h))
-
-level-most : (P steps j : ℕ) → j ≤ steps → levelAfter P steps j ≤ P
-unfolding levelAfter
-level-most P steps j h =
-    let a : P * j ≤ P * steps = mul-le-mul-left P h in
-    div-le-of-le-mul steps (omega arith)
+level-grows {P} {Q} steps j one h = nearest-grows steps one (mul-le-mul-right j h)
 
 level-none : (P steps j : ℕ) → j ≡ 0 → levelAfter P steps j ≡ 0
 unfolding levelAfter
-level-none P steps j e = rw e (ap (λ x. x / steps) (let z : P * 0 ≡ 0 = omega arith in z) ∙ zero-div steps)
+level-none P steps j e = rw e (ap (λ x. nearest x steps) (let z : P * 0 ≡ 0 = omega arith in z) ∙ nearest-none steps)
 
 level-top : (P steps : ℕ) → 1 ≤ steps → levelAfter P steps steps ≡ P
 unfolding levelAfter
-level-top P steps one = mul-div-cancel P one
+level-top P steps one = nearest-whole P one
+
+level-most : (P steps j : ℕ) → j ≤ steps → levelAfter P steps j ≤ P
+level-most P steps j h =
+    cases (eqb j 0)
+    (λ t. rw (level-none P steps j (eqb-true j 0 t)) (omega arith))
+    (λ t. let one : 1 ≤ steps = omega (arith, eqb-false j 0 t) in omega (arith, level-rises P steps one h, level-top P steps one))
 
 module _ {P r f : ℕ} (range : InRange P r f) where
   pub pulse-top : pulse P r f r ≡ P

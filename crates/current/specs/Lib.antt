@@ -1,3 +1,4 @@
+pub mod Rounding
 pub mod Pulse
 pub mod Current
 pub mod Drawing

@@ -32,6 +32,7 @@ use Rattle.waveform.specs.Waveform.{earlier, inputWaveform, gateFrom, pinWavefo
 use Rattle.current.specs.Current.{ticksWhere, greatestAt, gateCurrent, drawsAt, part, contactCurrent, transitionsOf, sheetOf}
 use Rattle.current.specs.Examples.{tableF}
 use Rattle.current.specs.Pulse.{levelAfter, pulse, pulseAt}
+use Rattle.current.specs.Rounding.{evenOf, nearest}
 use Rattle.current.proofs.Examples.{current-examples}
 use Rattle.operation.proofs.Operations.{by-arguments}
 use Rattle.operation.specs.declared.Outcome.{Outcome}
@@ -73,17 +74,17 @@ endS = record {
   };
 }
 
-ends-F : searchOf (searching blockF tableF 1000 200) ≡ frameEnd Exact blockF 55 55 (lh ∷ lh ∷ [])
-unfolding allBelow anyBelow maxBelow argmax sumBelow countBelow inTurn listBelow excitationOf member decode joinSets each size isInput kindOf gateValue gateOf switchingTick inputsBelow frame feeds fedFrom coneSize extend runsFrom gapsAfter gaps shorter shortest close closeFirst closeShortest closeWhile merged inside holding ticksInside fillTicks setsHolding filled earlier inputWaveform gateFrom pinWaveform gateAt gateWaveform netWaveform waveforms levelAfter pulse pulseAt ticksWhere greatestAt gateCurrent drawsAt part contactCurrent dropAt dropOf transitionsOf sheetOf undecided decided firstAllowed probe evaluationOf membersBelow childrenBelow coneSizes rankOf rank chosenInput upperAt setsAt greatestUpper nextSplit placed outcomeOf better bestOf firstBest madeUnder firstState nextChildren split outcomeAt searchFrom search searchOf
+ends-F : searchOf (searching blockF tableF 1000 200) ≡ frameEnd Exact blockF 56 56 (lh ∷ lh ∷ [])
+unfolding allBelow anyBelow maxBelow argmax sumBelow countBelow inTurn listBelow excitationOf member decode joinSets each size isInput kindOf gateValue gateOf switchingTick inputsBelow frame feeds fedFrom coneSize extend runsFrom gapsAfter gaps shorter shortest close closeFirst closeShortest closeWhile merged inside holding ticksInside fillTicks setsHolding filled earlier inputWaveform gateFrom pinWaveform gateAt gateWaveform netWaveform waveforms evenOf nearest levelAfter pulse pulseAt ticksWhere greatestAt gateCurrent drawsAt part contactCurrent dropAt dropOf transitionsOf sheetOf undecided decided firstAllowed probe evaluationOf membersBelow childrenBelow coneSizes rankOf rank chosenInput upperAt setsAt greatestUpper nextSplit placed outcomeOf better bestOf firstBest madeUnder firstState nextChildren split outcomeAt searchFrom search searchOf
 ends-F = refl
 
 ends-unsplit-S : (searchOf (searching blockS tableS 1999 0) ≡ frameEnd Spent blockS 20 10 (lh ∷ []))
     × (searchOf (searching blockS tableS 2000 0) ≡ frameEnd Within blockS 20 10 (lh ∷ []))
-unfolding allBelow anyBelow maxBelow argmax sumBelow countBelow inTurn listBelow excitationOf member decode joinSets each size isInput kindOf gateValue gateOf switchingTick inputsBelow frame feeds fedFrom coneSize extend runsFrom gapsAfter gaps shorter shortest close closeFirst closeShortest closeWhile merged inside holding ticksInside fillTicks setsHolding filled earlier inputWaveform gateFrom pinWaveform gateAt gateWaveform netWaveform waveforms levelAfter pulse pulseAt ticksWhere greatestAt gateCurrent drawsAt part contactCurrent dropAt dropOf transitionsOf sheetOf undecided decided firstAllowed probe evaluationOf membersBelow childrenBelow coneSizes rankOf rank chosenInput upperAt setsAt greatestUpper nextSplit placed outcomeOf better bestOf firstBest madeUnder firstState nextChildren split outcomeAt searchFrom search searchOf
+unfolding allBelow anyBelow maxBelow argmax sumBelow countBelow inTurn listBelow excitationOf member decode joinSets each size isInput kindOf gateValue gateOf switchingTick inputsBelow frame feeds fedFrom coneSize extend runsFrom gapsAfter gaps shorter shortest close closeFirst closeShortest closeWhile merged inside holding ticksInside fillTicks setsHolding filled earlier inputWaveform gateFrom pinWaveform gateAt gateWaveform netWaveform waveforms evenOf nearest levelAfter pulse pulseAt ticksWhere greatestAt gateCurrent drawsAt part contactCurrent dropAt dropOf transitionsOf sheetOf undecided decided firstAllowed probe evaluationOf membersBelow childrenBelow coneSizes rankOf rank chosenInput upperAt setsAt greatestUpper nextSplit placed outcomeOf better bestOf firstBest madeUnder firstState nextChildren split outcomeAt searchFrom search searchOf
 ends-unsplit-S = (refl, refl)
 
 ends-S : searchOf (searching blockS tableS 1000 200) ≡ endS
-unfolding allBelow anyBelow maxBelow argmax sumBelow countBelow inTurn listBelow excitationOf member decode joinSets each size isInput kindOf gateValue gateOf switchingTick inputsBelow frame feeds fedFrom coneSize extend runsFrom gapsAfter gaps shorter shortest close closeFirst closeShortest closeWhile merged inside holding ticksInside fillTicks setsHolding filled earlier inputWaveform gateFrom pinWaveform gateAt gateWaveform netWaveform waveforms levelAfter pulse pulseAt ticksWhere greatestAt gateCurrent drawsAt part contactCurrent dropAt dropOf transitionsOf sheetOf undecided decided firstAllowed probe evaluationOf membersBelow childrenBelow coneSizes rankOf rank chosenInput upperAt setsAt greatestUpper nextSplit placed outcomeOf better bestOf firstBest madeUnder firstState nextChildren split outcomeAt searchFrom search searchOf
+unfolding allBelow anyBelow maxBelow argmax sumBelow countBelow inTurn listBelow excitationOf member decode joinSets each size isInput kindOf gateValue gateOf switchingTick inputsBelow frame feeds fedFrom coneSize extend runsFrom gapsAfter gaps shorter shortest close closeFirst closeShortest closeWhile merged inside holding ticksInside fillTicks setsHolding filled earlier inputWaveform gateFrom pinWaveform gateAt gateWaveform netWaveform waveforms evenOf nearest levelAfter pulse pulseAt ticksWhere greatestAt gateCurrent drawsAt part contactCurrent dropAt dropOf transitionsOf sheetOf undecided decided firstAllowed probe evaluationOf membersBelow childrenBelow coneSizes rankOf rank chosenInput upperAt setsAt greatestUpper nextSplit placed outcomeOf better bestOf firstBest madeUnder firstState nextChildren split outcomeAt searchFrom search searchOf
 ends-S = refl
 
 -- The quiet ticks of their final sheets. Each sheet stands once, so that it is computed once.
@@ -97,7 +98,7 @@ simulatedS =
     simulatedSheet blockS (l ∷ []) ∷ simulatedSheet blockS (h ∷ []) ∷ simulatedSheet blockS (hl ∷ []) ∷ simulatedSheet blockS (lh ∷ []) ∷ []
 
 quiet-S : (quietTick (envelopeSheet 10 blockS (frame blockS)) ≡ 1) × (quietTick (greatestOf simulatedS) ≡ 1)
-unfolding anyBelow maxBelow lastBelow sumBelow countBelow inTurn listBelow excitationOf member decode joinSets each size isInput kindOf gateValue gateOf switchingTick inputsBelow frame extend runsFrom gapsAfter gaps shorter shortest close closeFirst closeShortest closeWhile merged inside holding ticksInside fillTicks setsHolding filled earlier inputWaveform gateFrom pinWaveform gateAt gateWaveform netWaveform waveforms levelAfter pulse pulseAt ticksWhere greatestAt gateCurrent drawsAt part contactCurrent flowsAt quietTick transitionsOf sheetOf
+unfolding anyBelow maxBelow lastBelow sumBelow countBelow inTurn listBelow excitationOf member decode joinSets each size isInput kindOf gateValue gateOf switchingTick inputsBelow frame extend runsFrom gapsAfter gaps shorter shortest close closeFirst closeShortest closeWhile merged inside holding ticksInside fillTicks setsHolding filled earlier inputWaveform gateFrom pinWaveform gateAt gateWaveform netWaveform waveforms evenOf nearest levelAfter pulse pulseAt ticksWhere greatestAt gateCurrent drawsAt part contactCurrent flowsAt quietTick transitionsOf sheetOf
 quiet-S = (refl, refl)
 
 -- With the frame as the one case the sheet is its envelope.
@@ -137,10 +138,10 @@ found-at given end quiet ends last =
       quiet = quiet-is i;
     }
 
-block-F : (foundBy (searching blockF tableF 1000 200) ≡ finding Exact 55 55 0 1 4)
+block-F : (foundBy (searching blockF tableF 1000 200) ≡ finding Exact 56 56 0 1 4)
     × (searchOf (searching blockF tableF 1000 200) .state .best .pattern ≡ lh ∷ lh ∷ [])
 unfolding maxBelow upperAt greatestUpper
-block-F = (found-at _ _ 4 ends-F (frame-quiet blockF 10 55 (undecided-frames .0) ∙ current-examples .envelope-quiet), ap (λ e. e .state .best .pattern) ends-F)
+block-F = (found-at _ _ 4 ends-F (frame-quiet blockF 10 56 (undecided-frames .0) ∙ current-examples .envelope-quiet), ap (λ e. e .state .best .pattern) ends-F)
 
 unsplit-S : (foundBy (searching blockS tableS 1999 0) ≡ finding Spent 20 10 0 1 1)
     × (foundBy (searching blockS tableS 2000 0) ≡ finding Within 20 10 0 1 1)
