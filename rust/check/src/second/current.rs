@@ -3,6 +3,7 @@
 use super::block::Record;
 use super::excitation::{Excitation, Signal};
 use super::waveform::Waveform;
+use std::cmp::Ordering;
 use zimgurav::{Currents, Word};
 
 /// How many contacts there are.
@@ -74,19 +75,33 @@ fn gate_current<S: Signal>(gate: &Record, waveform: &Waveform<S>) -> Row {
     current
 }
 
-/// A pulse, from its start until it is 0 for good: after k ticks it is
-/// floor(P × k / r) for k up to r, floor(P × (r + f − k) / f) up to r + f.
+/// A pulse, from its start until it is 0 for good: after k ticks it is P × k / r for
+/// k up to r, P × (r + f − k) / f up to r + f, each quotient rounded by itself.
 fn pulse(peak: u16, rise: u8, fall: u8) -> Vec<Word> {
     let (p, r, f) = (Word::from(peak), Word::from(rise), Word::from(fall));
     let mut currents = Vec::new();
     for k in 0..=r + f {
         if k <= r {
-            currents.push(p * k / r);
+            currents.push(nearest(p * k, r));
         } else {
-            currents.push(p * (r + f - k) / f);
+            currents.push(nearest(p * (r + f - k), f));
         }
     }
     currents
+}
+
+/// Number / divisor, rounded to the nearest microampere, an exact half to the even
+/// one.
+fn nearest(number: Word, divisor: Word) -> Word {
+    let below = number / divisor;
+    let above = below + 1;
+    let rest = number % divisor;
+    match (2 * rest).cmp(&divisor) {
+        Ordering::Less => below,
+        Ordering::Greater => above,
+        Ordering::Equal if below.is_multiple_of(2) => below,
+        Ordering::Equal => above,
+    }
 }
 
 /// The drop, in nanovolts, is the greatest over nodes and ticks of the sum of
@@ -123,25 +138,58 @@ pub fn quiet_tick(sheet: &[Word]) -> u64 {
 mod tests {
     use super::*;
 
-    /// P 31, r 2, f 2: 0, 15, 31, 15, 0.
+    /// P 31, r 2, f 2: 15.5 becomes 16.
     #[test]
     fn pulse_of_31() {
-        assert_eq!(pulse(31, 2, 2), [0, 15, 31, 15, 0]);
+        assert_eq!(pulse(31, 2, 2), [0, 16, 31, 16, 0]);
     }
 
-    /// P 7, r 3: 0, 2, 4, 7.
+    /// P 7, r 3: 0, 2, 5, 7.
     #[test]
     fn pulse_of_7() {
-        assert_eq!(pulse(7, 3, 1), [0, 2, 4, 7, 0]);
-        assert_eq!(pulse(7, 1, 3), [0, 7, 4, 2, 0]);
+        assert_eq!(pulse(7, 3, 1), [0, 2, 5, 7, 0]);
+        assert_eq!(pulse(7, 1, 3), [0, 7, 5, 2, 0]);
     }
 
+    /// A 127th of 65,535 is 516 and 3 / 127, and 126 of them are 65,018 and 124 / 127.
     #[test]
     fn pulse_at_the_limits() {
         let longest = pulse(65_535, 127, 127);
         assert_eq!(longest.len(), 255);
-        assert_eq!(longest[126..=128], [65_018, 65_535, 65_018]);
+        assert_eq!(longest[..3], [0, 516, 1_032]);
+        assert_eq!(longest[126..=128], [65_019, 65_535, 65_019]);
+        assert_eq!(longest[252..], [1_032, 516, 0]);
         assert_eq!(pulse(0, 1, 1), [0, 0, 0]);
+    }
+
+    #[test]
+    fn halves_become_even() {
+        assert_eq!(nearest(33, 2), 16);
+        assert_eq!(nearest(31, 2), 16);
+        assert_eq!(nearest(29, 2), 14);
+        assert_eq!(nearest(1, 2), 0);
+        assert_eq!(nearest(65_535, 2), 32_768);
+    }
+
+    /// Where another whole number is as near, the rounded one is even.
+    #[test]
+    fn no_whole_number_is_nearer() {
+        let mut halves = 0;
+        for divisor in 1..=16 {
+            for number in 0..=400 {
+                let rounded = nearest(number, divisor);
+                let distance = |whole: Word| (whole * divisor).abs_diff(number);
+                for other in (0..=number + 1).filter(|&other| other != rounded) {
+                    assert!(distance(rounded) <= distance(other), "{number} / {divisor}");
+                    if distance(rounded) == distance(other) {
+                        assert!(rounded.is_multiple_of(2), "{number} / {divisor}");
+                        halves += 1;
+                    }
+                }
+            }
+        }
+        // An even divisor has a half for one of as many numbers in a row: 2 has 200, 4 has 100.
+        assert_eq!(halves, 200 + 100 + 67 + 50 + 40 + 33 + 29 + 25);
     }
 
     /// The quiet tick of a sheet with a current of 1 at each of these contacts and ticks.

@@ -1,5 +1,5 @@
-//! The second implementation of document 01 and of the bench texts and exact quiet ticks added to it, written
-//! from the paper alone and for obviousness.
+//! The second implementation of document 01 as the requests have changed it: with bench texts, exact quiet
+//! ticks and pulses rounded to the nearest. It is written from the paper alone and for obviousness.
 //!
 //! The proved library is tested against it, and timed beside it.
 
