@@ -77,12 +77,12 @@ static void simulate(const uint8_t pattern[PATTERN])
 
 int main(void)
 {
-    const uint64_t currents[NUMBERS] = {0, 55, 4};
+    const uint64_t currents[NUMBERS] = {0, 56, 4};
     const uint64_t none[NUMBERS] = {0, 0, 0};
     const uint64_t hop_limit[NUMBERS] = {ZIMGURAV_REFUSED_HOP_LIMIT};
     const uint64_t pattern_byte[NUMBERS] = {ZIMGURAV_REFUSED_PATTERN, 1};
-    const zimgurav_word ceiling[2][8] = {{0, 20, 10, 0}, {0, 15, 31, 31, 15, 0}};
-    const zimgurav_word both_rise[2][8] = {{0, 20, 10, 0}, {0, 15, 31, 30, 15}};
+    const zimgurav_word ceiling[2][8] = {{0, 20, 10, 0}, {0, 16, 31, 31, 16, 0}};
+    const zimgurav_word both_rise[2][8] = {{0, 20, 10, 0}, {0, 16, 31, 30, 15}};
     const zimgurav_word nothing[2][8] = {{0}, {0}};
     uint8_t pattern[PATTERN] = {3, 3};
     int wrong = 0;

@@ -1,6 +1,8 @@
 //! Envelope and Simulate on document 01's examples, at the ends of their ranges, with all kinds of
-//! buffers, and against each other. The expected currents are written from document 01, and both the
-//! library and the second implementation must give them.
+//! buffers, and against each other. The expected currents are written from document 01 and the requests
+//! that change it, and both the library and the second implementation must give them.
+
+use std::ops::RangeInclusive;
 
 use check::implementation::{Implementation, Operation, LIBRARY, SECOND};
 use check::sample::{
@@ -56,6 +58,37 @@ fn with_pattern(block: &[Record], excitations: &[u8]) -> Arguments {
     arguments
 }
 
+/// Both operations, with a pattern of lh at net 0, the only input, which allows nothing else.
+#[track_caller]
+fn both_give(block: &[Record], drop: u64, quiet: u64, rows: &[(usize, &[Word])]) {
+    let arguments = with_pattern(block, &[LH]);
+    simulate_gives(&arguments, drop, quiet, rows);
+    envelope_gives(&arguments, drop, quiet, rows);
+}
+
+/// The whole number nearest to product / steps, of two that are as near the even one. Distances are multiplied by
+/// `steps`, which makes them whole numbers too.
+fn nearest(product: Word, steps: Word) -> Word {
+    let below = product / steps;
+    let neighbours = [below, below + 1].into_iter();
+    let nearest = neighbours.min_by_key(|whole| ((whole * steps).abs_diff(product), whole % 2));
+    nearest.expect("one of two")
+}
+
+/// A pulse from its start to its end, by the rule.
+fn pulse_row(slopes: [u8; 2], peak: u16) -> Vec<Word> {
+    let [rise, fall] = slopes.map(Word::from);
+    let part = |step, steps| nearest(Word::from(peak) * step, steps);
+    let rising = (0..rise).map(|step| part(step, rise));
+    let falling = (0..=fall).rev().map(|step| part(step, fall));
+    rising.chain(falling).collect()
+}
+
+/// The last tick at which the row is not 0, and 0 if none is.
+fn last_current(row: &[Word]) -> u64 {
+    row.iter().rposition(|&current| current != 0).unwrap_or(0) as u64
+}
+
 mod block_f {
     use super::*;
 
@@ -69,21 +102,23 @@ mod block_f {
 
     #[test]
     fn envelope() {
-        let rows: [(usize, &[Word]); 2] = [(0, &[0, 20, 10, 0]), (1, &[0, 15, 31, 31, 15, 0])];
-        envelope_gives(&arguments([L, L]), 55, 4, &rows);
+        let rows: [(usize, &[Word]); 2] = [(0, &[0, 20, 10, 0]), (1, &[0, 16, 31, 31, 16, 0])];
+        envelope_gives(&arguments([L, L]), 56, 4, &rows);
         for hop_limit in 1..=16 {
             let arguments = Arguments {
                 hop_limit,
                 ..arguments([L, L])
             };
-            envelope_gives(&arguments, 55, 4, &rows);
+            envelope_gives(&arguments, 56, 4, &rows);
         }
     }
 
+    /// Net 3 falls at tick 2 and rises at tick 3: pulses 0, 16, 31, 16, 0 from tick 0 and 0, 15, 30, 15, 0 from
+    /// tick 1.
     #[test]
     fn both_lh() {
-        let rows: [(usize, &[Word]); 2] = [(0, &[0, 20, 10, 0]), (1, &[0, 15, 31, 30, 15])];
-        simulate_gives(&arguments([LH, LH]), 55, 4, &rows);
+        let rows: [(usize, &[Word]); 2] = [(0, &[0, 20, 10, 0]), (1, &[0, 16, 31, 30, 15])];
+        simulate_gives(&arguments([LH, LH]), 56, 4, &rows);
     }
 
     /// Net 2 falls at tick 1; net 3 has h, as net 1 is low.
@@ -95,7 +130,7 @@ mod block_f {
     /// Net 2 rises at tick 1, and net 3 falls at tick 3, as net 1 is high.
     #[test]
     fn hl_and_h() {
-        let rows: [(usize, &[Word]); 2] = [(0, &[0, 10, 5]), (1, &[0, 0, 15, 31, 15])];
+        let rows: [(usize, &[Word]); 2] = [(0, &[0, 10, 5]), (1, &[0, 0, 16, 31, 16])];
         simulate_gives(&arguments([HL, H]), 31, 4, &rows);
     }
 
@@ -137,20 +172,30 @@ mod pulses {
     #[track_caller]
     fn pulse([rise, fall]: [u8; 2], peak: u16, quiet: u64, row: &[Word]) {
         let buffer = drawing(gate(BUF, &[0]), [0, 1, rise, fall], [peak, 0]);
-        let arguments = with_pattern(&[input(8), buffer], &[LH]);
-        simulate_gives(&arguments, u64::from(peak), quiet, &[(0, row)]);
-        envelope_gives(&arguments, u64::from(peak), quiet, &[(0, row)]);
+        both_give(&[input(8), buffer], peak.into(), quiet, &[(0, row)]);
+    }
+
+    /// The pulse that the rule gives.
+    #[track_caller]
+    fn pulse_by_rule(slopes: [u8; 2], peak: u16) {
+        let row = pulse_row(slopes, peak);
+        pulse(slopes, peak, last_current(&row), &row);
     }
 
     #[test]
     fn of_31() {
-        pulse([2, 2], 31, 3, &[0, 15, 31, 15, 0]);
+        pulse([2, 2], 31, 3, &[0, 16, 31, 16, 0]);
+    }
+
+    #[test]
+    fn of_33() {
+        pulse([2, 2], 33, 3, &[0, 16, 33, 16, 0]);
     }
 
     #[test]
     fn of_7() {
-        pulse([3, 1], 7, 3, &[0, 2, 4, 7]);
-        pulse([1, 3], 7, 3, &[0, 7, 4, 2]);
+        pulse([3, 1], 7, 3, &[0, 2, 5, 7]);
+        pulse([1, 3], 7, 3, &[0, 7, 5, 2]);
     }
 
     #[test]
@@ -158,27 +203,117 @@ mod pulses {
         pulse([127, 127], 0, 0, &[]);
     }
 
-    /// Rounded down, a small peak is gone before the pulse ends: one of 1 is there at one tick alone.
+    /// A peak of 1 is rounded to 0 up to a half: of 127 steps it has 1 from step 64 on. A peak of 3 has 1.5 at step 5
+    /// of 10, which becomes 2.
     #[test]
     fn of_1_and_3() {
-        let mut row = [0; 128];
-        row[127] = 1;
-        pulse([127, 127], 1, 127, &row);
-        pulse([127, 1], 1, 127, &row);
-        pulse([1, 127], 1, 1, &[0, 1]);
-        pulse([1, 10], 3, 7, &[0, 3, 2, 2, 2, 1, 1, 1]);
+        let row = |from: usize, to: usize| [vec![0; from], vec![1; to + 1 - from]].concat();
+        pulse([127, 127], 1, 190, &row(64, 190));
+        pulse([127, 1], 1, 127, &row(64, 127));
+        pulse([1, 127], 1, 64, &row(1, 64));
+        pulse([2, 2], 1, 2, &[0, 0, 1]);
+        pulse([1, 10], 3, 9, &[0, 3, 3, 2, 2, 2, 2, 1, 1, 1]);
     }
 
+    /// The peak is half the number of steps, so that step k has k / 2.
+    #[test]
+    fn of_halves() {
+        let halves = [0, 0, 1, 2, 2, 2, 3, 4, 4, 4, 5, 6, 6, 6, 7, 8, 8];
+        for steps in (2..=16).step_by(2) {
+            let rising = &halves[..=usize::from(steps)];
+            let peak = u16::from(steps / 2);
+            pulse([steps, 1], peak, steps.into(), rising);
+            let falling = [0].iter().chain(rising.iter().rev());
+            let falling: Vec<Word> = falling.copied().collect();
+            pulse([1, steps], peak, u64::from(steps) - 1, &falling);
+        }
+    }
+
+    /// Whether one of the peaks has an exact half at this step: with an even number below it, and with an odd one.
+    fn have_halves(peaks: RangeInclusive<u16>, step: u8, steps: u8) -> [bool; 2] {
+        let [step, steps] = [step, steps].map(u16::from);
+        [0, 1].map(|odd| {
+            let mut products = peaks.clone().map(|peak| peak * step);
+            products.any(|product| 2 * (product % steps) == steps && product / steps % 2 == odd)
+        })
+    }
+
+    /// An exact half can occur at each step that has fewer factors 2 than the number of steps. With peaks up to twice
+    /// that number it occurs at each of them with an even number below it, and with an odd one.
+    #[test]
+    fn of_every_half_in_few_steps() {
+        for steps in (2..=16_u8).step_by(2) {
+            let peaks = 0..=2 * u16::from(steps);
+            for step in 1..steps {
+                let can_occur = step.trailing_zeros() < steps.trailing_zeros();
+                assert_eq!(have_halves(peaks.clone(), step, steps), [can_occur; 2]);
+            }
+            for peak in peaks {
+                pulse_by_rule([steps, 1], peak);
+                pulse_by_rule([1, steps], peak);
+            }
+        }
+    }
+
+    /// The two greatest peaks: exact halves, and what is closest to a half where there is none.
+    #[test]
+    fn of_the_greatest_peaks() {
+        for (peak, step, steps, current) in [
+            (65_535, 1, 2, 32_768),     // 32,767 1/2
+            (65_535, 21, 126, 10_922),  // 10,922 1/2
+            (65_535, 63, 126, 32_768),  // 32,767 1/2
+            (65_535, 105, 126, 54_612), // 54,612 1/2
+            (65_534, 4, 126, 2_080),    // 2,080 4/9
+            (65_534, 5, 126, 2_601),    // 2,600 5/9
+            (65_535, 21, 127, 10_836),  // 10,836 63/127
+            (65_535, 106, 127, 54_699), // 54,698 64/127
+            (65_534, 95, 127, 49_021),  // 49,021 63/127
+            (65_534, 32, 127, 16_513),  // 16,512 64/127
+        ] {
+            assert_eq!(nearest(peak * step, steps), current);
+        }
+        for steps in [2, 126, 127] {
+            for peak in [65_534, 65_535] {
+                pulse_by_rule([steps, 1], peak);
+                pulse_by_rule([1, steps], peak);
+            }
+        }
+    }
+
+    /// 65,535 is 516 × 127 + 3, and 3 × k / 127 is nearest to 1 from k 22 on, to 2 from 64 and to 3 from 106.
     #[test]
     fn of_the_greatest_peak_and_slopes() {
-        let rising = (0..=127).map(|k| 65_535 * k / 127);
-        let falling = (128..=254).map(|k| 65_535 * (254 - k) / 127);
-        let row: Vec<Word> = rising.chain(falling).collect();
+        let more = |k| [22, 64, 106].iter().filter(|&&from| from <= k).count();
+        let steps = (0..=127).chain((0..127).rev());
+        let row: Vec<Word> = steps.map(|k| 516 * k + more(k) as Word).collect();
         pulse([127, 127], 65_535, 253, &row);
     }
 
+    /// Each rise and each fall, for both edges, with one of these peaks at each contact.
+    #[test]
+    fn of_all_slopes() {
+        let peaks = [
+            0, 1, 2, 3, 31, 33, 62, 63, 64, 126, 127, 128, 32_767, 32_768, 65_534, 65_535,
+        ];
+        let drop = peaks.iter().map(|&peak| u64::from(peak)).sum();
+        for rise in 1..=127 {
+            let fall = 128 - rise;
+            let rows = peaks.map(|peak| pulse_row([rise, fall], peak));
+            let quiet = rows.iter().map(|row| last_current(row)).max();
+            let rows: Vec<(usize, &[Word])> = (0..).zip(rows.iter().map(|row| &row[..])).collect();
+            for kind in [BUF, NOT] {
+                let gates = (0..).zip(peaks).map(|(contact, peak)| {
+                    let edges = if kind == BUF { [peak, 0] } else { [0, peak] };
+                    drawing(gate(kind, &[0]), [contact, 1, rise, fall], edges)
+                });
+                let block: Vec<Record> = [input(8)].into_iter().chain(gates).collect();
+                both_give(&block, drop, quiet.expect("16 rows"), &rows);
+            }
+        }
+    }
+
     /// Arrival 255 at the end of a chain: with a delay of 1 the last pulse ends at tick 508. The tick before
-    /// has a 127th of the peak, which is 0 if that is below 127.
+    /// has a 127th of the peak, which is rounded to 0 if the peak is below 64.
     #[test]
     fn at_the_latest_arrival() {
         let mut block = vec![input(8)];
@@ -186,15 +321,10 @@ mod pulses {
             block.push(silent(gate(BUF, &[pin]), delay));
         }
         block.push(gate(BUF, &[5]));
-        for (peak, quiet) in [(65_535, 507), (127, 507), (126, 506)] {
+        for (peak, quiet) in [(65_535, 507), (64, 507), (63, 506)] {
             block[6] = drawing(gate(BUF, &[5]), [15, 1, 127, 127], [peak, 1]);
-            let arguments = with_pattern(&block, &[LH]);
-            let peak = Word::from(peak);
-            let mut row = vec![0; 254];
-            row.extend((0..=127).map(|k| peak * k / 127));
-            row.extend((128..=254).map(|k| peak * (254 - k) / 127));
-            simulate_gives(&arguments, peak.into(), quiet, &[(15, &row)]);
-            envelope_gives(&arguments, peak.into(), quiet, &[(15, &row)]);
+            let row = [vec![0; 254], pulse_row([127, 127], peak)].concat();
+            both_give(&block, peak.into(), quiet, &[(15, &row)]);
         }
 
         block[6][2] = 2;
@@ -482,19 +612,11 @@ mod drops {
 mod quiet_ticks {
     use super::*;
 
-    /// Both operations, with a pattern of lh at net 0, the only input, which allows nothing else.
-    #[track_caller]
-    fn both_give(block: &[Record], drop: u64, quiet: u64, rows: &[(usize, &[Word])]) {
-        let arguments = with_pattern(block, &[LH]);
-        simulate_gives(&arguments, drop, quiet, rows);
-        envelope_gives(&arguments, drop, quiet, rows);
-    }
-
     /// A pulse from tick S on ends at S + rise + fall, and has current at the tick before, as the peak is not below
     /// the fall. S is at most 254, rise and fall 127.
     #[test]
     fn are_each_of_1_to_507() {
-        for quiet in 1..=507 {
+        for quiet in 1..=507_u16 {
             let start = (quiet - 1).min(254);
             let rise = (quiet - start).min(127);
             let fall = quiet + 1 - start - rise;
@@ -510,9 +632,8 @@ mod quiet_ticks {
             let contact = quiet % 16;
             let timing = [contact as u8, 1, rise as u8, fall as u8];
             block.push(drawing(last, timing, [127, 0]));
-            let mut row = vec![0; start as usize];
-            row.extend((0..=rise).map(|k| 127 * k / rise));
-            row.extend((1..fall).rev().map(|k| 127 * k / fall));
+            let pulse = pulse_row([rise as u8, fall as u8], 127);
+            let row = [vec![0; start as usize], pulse].concat();
             both_give(&block, 127, quiet.into(), &[(contact as usize, &row)]);
         }
     }
@@ -542,9 +663,9 @@ mod quiet_ticks {
     fn are_of_rows_without_a_resistance_too() {
         let mut arguments = with_pattern(&sample::block_f(), &[HL, H]);
         arguments.table[1] = 0;
-        let envelope: [(usize, &[Word]); 2] = [(0, &[0, 20, 10]), (1, &[0, 15, 31, 31, 15])];
+        let envelope: [(usize, &[Word]); 2] = [(0, &[0, 20, 10]), (1, &[0, 16, 31, 31, 16])];
         envelope_gives(&arguments, 20, 4, &envelope);
-        let hl_and_h: [(usize, &[Word]); 2] = [(0, &[0, 10, 5]), (1, &[0, 0, 15, 31, 15])];
+        let hl_and_h: [(usize, &[Word]); 2] = [(0, &[0, 10, 5]), (1, &[0, 0, 16, 31, 16])];
         simulate_gives(&arguments, 10, 4, &hl_and_h);
     }
 
@@ -568,8 +689,8 @@ mod quiet_ticks {
         envelope_gives(&with_pattern(&block, &[LH]), 10, 2, &[(0, &[0, 10, 5])]);
     }
 
-    /// Net 3 has lh at tick 10, hl at 12: pulses from ticks 6 and 8. The second is there at tick 11 alone, where
-    /// it is 1.
+    /// Net 3 has lh at tick 10, hl at 12: pulses from ticks 6 and 8. The second would end at tick 20, but is 0 from
+    /// tick 16 on.
     #[test]
     fn are_not_of_the_last_pulse_where_that_rounds_to_0() {
         let block = [
@@ -579,7 +700,7 @@ mod quiet_ticks {
             drawing(gate(XOR, &[1, 2]), [3, 4, 3, 9], [60, 1]),
         ];
         let row = [
-            0, 0, 0, 0, 0, 0, 0, 20, 40, 60, 53, 46, 40, 33, 26, 20, 13, 6,
+            0, 0, 0, 0, 0, 0, 0, 20, 40, 60, 53, 47, 40, 33, 27, 20, 13, 7,
         ];
         both_give(&block, 60, 17, &[(3, &row)]);
     }

@@ -13,7 +13,7 @@ use std::thread;
 use std::time::{Duration, Instant};
 
 use check::implementation::SECOND;
-use check::sample::{damage, gate, input, peaks, Arguments, Random, Record, Shape};
+use check::sample::{damage, drawing, gate, input, peaks, Arguments, Random, Record, Shape};
 use check::second;
 use zimgurav::excitation::{H, HL, L, LH};
 use zimgurav::kind::{AND, BUF, NOT};
@@ -136,6 +136,14 @@ mod examples {
     fn block_f() {
         let file = include_bytes!("../../../examples/block_f.blk");
         prints(file, "exact 41 41 0 1\nlh lh\n");
+    }
+
+    /// At tick 1 the first two gates have 15.5 and 16.5, and both are rounded to 16.
+    #[test]
+    fn halves() {
+        let rising = |slope, peak| drawing(gate(BUF, &[0]), [0, 1, slope, slope], [peak, 0]);
+        let block = [input(15), rising(2, 31), rising(2, 33), rising(1, 50)];
+        prints(&block.concat(), "exact 82 82 0 1\nlh\n");
     }
 
     #[test]

@@ -1,6 +1,6 @@
 //! Search on document 01's examples, where each of its choices shows, and against Simulate. The expected
-//! answers and buffers are written from document 01, and both the library and the second implementation
-//! must give them.
+//! answers and buffers are written from document 01 and the requests that change it, and both the library and
+//! the second implementation must give them.
 
 use check::agreement::Searched;
 use check::implementation::{Implementation, LIBRARY, SECOND};
@@ -231,14 +231,15 @@ mod block_f {
         arguments
     }
 
-    /// The pattern lh, lh drops as much as the envelope, at tick 2. The sheet is the envelope's, with or without
-    /// resistances, and so is the quiet tick.
+    /// The pattern lh, lh drops as much as the envelope: with resistances 2 and 1 at tick 1, where contact 1 has 15.5
+    /// rounded to 16, and with 1 and 1 at tick 2. The sheet is the envelope's, with or without resistances, and so is
+    /// the quiet tick.
     #[test]
     fn is_exact_without_a_split() {
         let mut sheet = [0; 512 + 5];
         sheet[..3].copy_from_slice(&[0, 20, 10]);
-        sheet[512..].copy_from_slice(&[0, 15, 31, 31, 15]);
-        for (resistances, drop) in [([2, 1], 55), ([1, 1], 41), ([0, 0], 0)] {
+        sheet[512..].copy_from_slice(&[0, 16, 31, 31, 16]);
+        for (resistances, drop) in [([2, 1], 56), ([1, 1], 41), ([0, 0], 0)] {
             for hop_limit in 1..=16 {
                 let arguments = Arguments {
                     hop_limit,
