@@ -7,7 +7,7 @@ use check::comparison;
 use check::implementation::{Implementation, Operation, LIBRARY, SECOND};
 use check::measure::full_blocks;
 use check::sample::{
-    damage, lend_random_text, lower_peaks, noise, spoil, Arguments, Random, Record, Shape,
+    damage, has_half, lend_random_text, lower_peaks, noise, spoil, Arguments, Random, Record, Shape,
 };
 use check::second;
 use zimgurav::{read, Counts, Outcome, Refusal, RECORD_BYTES};
@@ -182,11 +182,13 @@ fn with_the_greatest_peaks(arguments: &Arguments) -> Arguments {
 fn random_simulations() {
     let mut random = Random::new(3);
     let mut reached = [0; 19];
-    let mut rounding_mattered = 0;
+    let (mut rounding_mattered, mut with_halves) = (0, 0);
     for turn in 0..CALLS {
         let arguments = random_arguments(&mut random);
         let answer = compare(Implementation::simulate, &arguments, turn);
         count(&mut reached, answer);
+        let mut records = arguments.file.as_chunks().0.iter();
+        with_halves += usize::from(answer.is_ok() && records.any(has_half));
         if let (Ok(currents), 0) = (answer, turn % 8) {
             let mut greatest = with_the_greatest_peaks(&arguments);
             let later = SECOND.simulate(&mut greatest).expect("accepted").quiet;
@@ -195,7 +197,8 @@ fn random_simulations() {
     }
     println!(
         "accepted, then refusals 1 to 18: {reached:?}; \
-         a quiet tick is earlier by rounding {rounding_mattered} times"
+         a quiet tick is earlier by rounding {rounding_mattered} times; \
+         {with_halves} blocks have a pulse with an exact half"
     );
     for number in [0, 12, 15, 16] {
         assert!(reached[number] >= 20, "reached too seldom: {reached:?}");
@@ -203,6 +206,10 @@ fn random_simulations() {
     assert!(
         rounding_mattered >= 10,
         "rounding mattered {rounding_mattered} times"
+    );
+    assert!(
+        with_halves >= 1_000,
+        "{with_halves} blocks have a pulse with an exact half"
     );
 }
 

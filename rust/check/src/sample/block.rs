@@ -64,6 +64,19 @@ pub fn lower_peaks(block: &mut [Record]) {
     }
 }
 
+/// Whether a pulse of the record has an exact half at some tick, before it is rounded.
+pub fn has_half(record: &Record) -> bool {
+    let slopes = [record[12], record[13]].map(u32::from);
+    let peaks = record[14..18].as_chunks().0.iter();
+    let mut peaks = peaks.map(|&bytes| u32::from(u16::from_le_bytes(bytes)));
+    peaks.any(|peak| {
+        let half = |step, steps| 2 * (peak * step % steps) == steps;
+        slopes
+            .iter()
+            .any(|&steps| (1..steps).any(|step| half(step, steps)))
+    })
+}
+
 /// Document 01's block S: an input of set 15, BUF and NOT of it.
 pub fn block_s() -> Vec<Record> {
     let drawn = |kind| peaks(gate(kind, &[0]), [10, 0]);
@@ -206,4 +219,26 @@ pub fn block_with_gaps(random: &mut Random) -> Vec<Record> {
         }
     }
     block
+}
+
+#[cfg(test)]
+mod tests {
+    use super::*;
+
+    /// Whether a gate with this rise, fall and peaks has a pulse with an exact half.
+    fn gate_has_half([rise, fall]: [u8; 2], peaks: [u16; 2]) -> bool {
+        has_half(&drawing(gate(BUF, &[0]), [0, 1, rise, fall], peaks))
+    }
+
+    /// 31 / 2, 2 / 4 and 65,535 × 63 / 126 are halves; whole numbers, thirds and 127ths are not.
+    #[test]
+    fn halves() {
+        assert!(gate_has_half([2, 1], [31, 0]));
+        assert!(gate_has_half([1, 4], [0, 2]));
+        assert!(gate_has_half([127, 126], [0, 65_535]));
+        assert!(!gate_has_half([2, 4], [4, 8]));
+        assert!(!gate_has_half([6, 3], [4, 2]));
+        assert!(!gate_has_half([127, 127], [65_535, 65_534]));
+        assert!(!has_half(&input(15)));
+    }
 }

@@ -3,7 +3,7 @@
 use std::fmt;
 use std::time::Duration;
 
-use crate::sample::{Arguments, KIND_WORDS};
+use crate::sample::{has_half, Arguments, KIND_WORDS};
 use zimgurav::kind::INPUT;
 use zimgurav::{Counts, Found, Outcome, Refusal, CONTACTS, RECORD_BYTES};
 
@@ -73,6 +73,8 @@ pub struct Coverage {
     inputs: [u64; 5],
     kinds: [u64; 8],
     pins: [u64; 4],
+    /// Gates with a pulse that has an exact half.
+    halves: u64,
     nodes: [u64; 4],
     hop_limits: [u64; 16],
     /// Gates of accepted envelopes, and those of them that had a gap filled.
@@ -103,6 +105,7 @@ impl Coverage {
         for gate in records.iter().filter(|record| record[0] != INPUT) {
             self.kinds[usize::from(gate[0]) - 2] += 1;
             self.pins[usize::from(gate[3]) - 1] += 1;
+            self.halves += u64::from(has_half(gate));
         }
     }
 
@@ -173,6 +176,8 @@ impl fmt::Display for Coverage {
         writeln!(f, "inputs    {}", classes(&INPUTS, &self.inputs))?;
         writeln!(f, "gates     {}", named(KIND_WORDS, &self.kinds))?;
         writeln!(f, "pins      {}", named(["1", "2", "3", "4"], &self.pins))?;
+        let (halves, gates) = (self.halves, self.kinds.iter().sum::<u64>());
+        writeln!(f, "halves    in pulses of {halves} of {gates} gates")?;
         writeln!(f, "nodes     {}", classes(&NODES, &self.nodes))?;
         writeln!(f, "hops      1 to 16: {:?}", self.hop_limits)?;
         let (gates, filled) = (self.gates, self.filled);
