@@ -3,7 +3,8 @@
 //!
 //! Built by `run`, which says where the yardstick is. The argument is the folder of its blocks.
 //!
-//! What is timed has to agree in everything but the quiet tick, as [`compared`] says.
+//! What is timed has to agree in everything but the quiet tick, as [`compared`] says. The blocks are timed with
+//! pulses that need no rounding, as [`without_fractions`] says.
 
 use std::env;
 use std::path::Path;
@@ -12,7 +13,8 @@ use baseline::fast;
 use check::implementation::{Implementation, LIBRARY, SECOND};
 use check::measure::{bench_block, compare_operation, compare_searches, full_blocks};
 use check::sample::Arguments;
-use zimgurav::{Counts, Currents, Found, Outcome, Refusal, Word};
+use zimgurav::kind::INPUT;
+use zimgurav::{Counts, Currents, Found, Outcome, Refusal, Word, RECORD_BYTES};
 
 /// Bench is not timed here.
 const YARDSTICK: Implementation = Implementation {
@@ -138,6 +140,24 @@ mod compared {
     }
 }
 
+/// The arguments with each peak above 0 changed to a multiple of both the gate's rise and its fall, so that every value
+/// of a pulse is a whole number: the yardstick rounds down, the others to the nearest.
+fn without_fractions(mut arguments: Arguments) -> Arguments {
+    let (records, _) = arguments.file.as_chunks_mut::<RECORD_BYTES>();
+    for gate in records.iter_mut().filter(|record| record[0] != INPUT) {
+        let [rise, fall] = [gate[12], gate[13]].map(u16::from);
+        let mut multiples = (1..=fall).map(|times| times * rise);
+        let least = multiples.find(|multiple| multiple % fall == 0);
+        let least = least.expect("the product is a multiple of both");
+        for bytes in gate[14..18].as_chunks_mut().0 {
+            let peak = u16::from_le_bytes(*bytes);
+            let times = (peak / least).max(peak.min(1));
+            *bytes = (least * times).to_le_bytes();
+        }
+    }
+    arguments
+}
+
 /// Times Envelope and Simulate of the three.
 fn compare(name: &str, arguments: &Arguments) {
     let all = [LIBRARY, SECOND, YARDSTICK];
@@ -150,10 +170,10 @@ fn main() {
     let folder = env::args_os()
         .nth(1)
         .expect("the folder of the yardstick's blocks");
-    let bench_block = bench_block(Path::new(&folder));
+    let bench_block = without_fractions(bench_block(Path::new(&folder)));
     compare("bench.blk", &bench_block);
     for (name, arguments) in full_blocks() {
-        compare(name, &arguments);
+        compare(name, &without_fractions(arguments));
     }
     let (call, pair) = (compared::search, [LIBRARY, YARDSTICK]);
     compare_searches("bench.blk", call, &bench_block, &BUDGETS, &pair);
