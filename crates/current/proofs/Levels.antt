@@ -42,7 +42,7 @@ module _ (x steps : ℕ) (small : x < 8388608) (one : 1 ≤ steps) where
 
 -- From these bounds alone, how 256ths are rounded.
 module _ (x steps fine : ℕ) (one : 1 ≤ steps) (few : steps < 128) (low : x * 256 < steps * (fine + 1)) (high : steps * fine < x * 256 + steps) where
-  -- The whole number, with something added.
+  -- The 256ths with something added, divided by 256.
   whole-is : (m add : ℕ) {sum : ℕ} → sum ≡ fine + add → m * steps * 256 ≤ x * 256 + steps * add
       → x * 256 + steps * (1 + add) ≤ (m + 1) * steps * 256 → sum / 256 ≡ m
   whole-is m add {sum} is least most =
@@ -50,7 +50,7 @@ module _ (x steps fine : ℕ) (one : 1 ≤ steps) (few : steps < 128) (low : x *
       let not-more : sum < (m + 1) * 256 = lt-of-mul-lt-mul-left steps (omega (arith, ap (λ a. steps * a) is)) in
       div-eq-of-lt-le 256 (omega arith) not-more
 
-  -- With 127 added where it is even, and 128 where it is odd, it is the rounded number.
+  -- With 127 added, and 128 where the whole number is odd, that is the rounded number.
   fine-rounds : (fine + 127 + fine / 256 % 2) / 256 ≡ nearest x steps
   fine-rounds =
       let q = x / steps in
