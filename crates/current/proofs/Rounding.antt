@@ -41,15 +41,8 @@ module _ (n d : ℕ) where
       (λ u. up (ltb-true d (2 * (n % d)) u))
       (λ u. let most = ltb-false d (2 * (n % d)) u in even (omega arith)))
 
-  rounded-low : n / d ≤ nearest n d
-  rounded-low =
-      by-rest
-      (λ h. rw (rounded-down h) (omega arith))
-      (λ e. rw (rounded-even e) (omega (arith, even-is (n / d))))
-      (λ h. rw (rounded-up h) (omega arith))
-
-  rounded-high : nearest n d ≤ n / d + 1
-  rounded-high =
+  rounded-between : (n / d ≤ nearest n d) × (nearest n d ≤ n / d + 1)
+  rounded-between =
       by-rest
       (λ h. rw (rounded-down h) (omega arith))
       (λ e. rw (rounded-even e) (omega (arith, even-is (n / d))))
@@ -74,27 +67,32 @@ pub nearest-grows : (d : ℕ) {n m : ℕ} → 1 ≤ d → n ≤ m → nearest n 
 nearest-grows d {n} {m} one h =
     let quotients : n / d ≤ m / d = le-div-iff-mul-le one .1 (le-trans (div-mul-le-self n d) h) in
     cases (ltb (n / d) (m / d))
-    (λ t. omega (arith, ltb-true (n / d) (m / d) t, rounded-high n d, rounded-low m d))
+    (λ t. omega (arith, ltb-true (n / d) (m / d) t, rounded-between n d .1, rounded-between m d .0))
     (λ t. let same : n / d ≡ m / d = omega (arith, ltb-false (n / d) (m / d) t) in
     let rests : n % d ≤ m % d = omega (arith, div-add-mod' n d, div-add-mod' m d, ap (λ q. q * d) same) in
     by-rest m d
     (λ u. rw (rounded-down m d u, rounded-down n d (omega arith)) (omega arith))
     (λ e. by-rest n d
-    (λ u. rw (rounded-down n d u) (omega (arith, rounded-low m d)))
+    (λ u. rw (rounded-down n d u) (omega (arith, rounded-between m d .0)))
     (λ u. omega (arith, rounded-even n d u, rounded-even m d e, ap evenOf same))
     (λ u. omega arith))
-    (λ u. omega (arith, rounded-up m d u, rounded-high n d)))
+    (λ u. omega (arith, rounded-up m d u, rounded-between n d .1)))
 
--- The request's words. The quotient is below n / d by the rest, and the next number is above it by what the rest is below d.
+-- The request's words.
 module _ (n d : ℕ) (one : 1 ≤ d) where
+  -- A whole number below n / d is away from it by the rest at least, and one above by what the rest is below d at least.
+  none-closer : (m : ℕ) → distance (m * d) n ≤ n % d → distance (m * d) n + n % d ≤ d → (k : ℕ) → distance (m * d) n ≤ distance (k * d) n
+  none-closer m below above k =
+      let whole = div-add-mod' n d in
+      cases (leb k (n / d))
+      (λ t. omega (arith, mul-le-mul-right d (leb-true k (n / d) t)))
+      (λ t. omega (arith, mul-le-mul-right d (leb-false k (n / d) t)))
+
   quotient-right : 2 * (n % d) ≤ d → (2 * (n % d) ≡ d → n / d % 2 ≡ 0) → NearestEven n d (n / d)
   quotient-right small even =
       let whole = div-add-mod' n d in
       record {
-        none-nearer = λ k.
-            cases (leb k (n / d))
-            (λ t. omega (arith, mul-le-mul-right d (leb-true k (n / d) t)))
-            (λ t. omega (arith, mul-le-mul-right d (leb-false k (n / d) t)));
+        none-nearer = none-closer (n / d) (omega arith) (omega arith);
         even-of-two = λ k other same.
             cases (ltb k (n / d))
             (λ t. omega (arith, mul-le-mul-right d (ltb-true k (n / d) t)))
@@ -107,10 +105,7 @@ module _ (n d : ℕ) (one : 1 ≤ d) where
       let whole = div-add-mod' n d in
       let rest = mod-lt n one in
       record {
-        none-nearer = λ k.
-            cases (leb k (n / d))
-            (λ t. omega (arith, mul-le-mul-right d (leb-true k (n / d) t)))
-            (λ t. omega (arith, mul-le-mul-right d (leb-false k (n / d) t)));
+        none-nearer = none-closer (n / d + 1) (omega arith) (omega arith);
         even-of-two = λ k other same.
             cases (leb k (n / d))
             (λ t. even (omega (arith, mul-le-mul-right d (leb-true k (n / d) t))))
