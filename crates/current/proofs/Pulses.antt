@@ -1,4 +1,4 @@
--- Laws of a pulse: it rises to its peak, falls after it and ends. Nothing else opens its level but `level-by`, for the code.
+-- Laws of a pulse: it rises to its peak, falls after it and ends. Nothing else opens its level but `level-by` and the computed examples.
 -- Assumes nothing.
 use Prim.Native.Nat.{ℕ, _+_, _*_, _-_, _≤_, _<_}
 use mathlib.Core.Path.{_≡_, refl, sym, ap, _∙_}

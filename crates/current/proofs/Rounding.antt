@@ -1,11 +1,14 @@
 -- Laws of rounding to the nearest, an exact half to the even one: it is right in the request's words, and no other number is; it grows with
 -- what is rounded, and leaves a whole number as it is. Nothing else opens it but the computed examples.
 -- Assumes nothing.
-use Prim.Native.Nat.{ℕ, _+_, _*_, _/_, _%_, _≤_, _<_}
-use mathlib.Core.Path.{_≡_, sym, ap, _∙_}
-use native.Mathlib.Nat.{div-add-mod', mod-lt, le-div-iff-mul-le, div-mul-le-self, le-trans, mul-div-cancel, mul-mod-left, mul-le-mul-right, zero-div, zero-mod}
+use Prim.Native.Nat.{ℕ, _+_, _*_, _/_, _%_, _≤_, _<_, compare, Ordering, Ordering·lt, Ordering·eq, Ordering·gt}
+use mathlib.Core.Path.{_≡_, refl, sym, ap, _∙_}
+use native.Mathlib.Nat.{div-add-mod', mod-lt, mul-div-cancel, mul-mod-left, mul-le-mul-right, zero-div, zero-mod}
+use native.Mathlib.Numerals.{add-one}
 use native.Mathlib.Omega.{arith}
-use lib.Dec.{leb, ltb, eqb}
+use lib.Dec.{leb, ltb, eqb, isLe, isEq}
+use lib.Ieee as ieee
+use lib.Ieee.Nearest.{closest, closest-mono}
 use borrow.Author.Tests.{lt-ltb, le-ltb, ltb-true, ltb-false, leb-true, leb-false, eqb-true, eqb-false}
 use borrow.Table.Steps.{cases}
 use Rattle.current.specs.Rounding.{evenOf, nearest, distance, NearestEven}
@@ -41,12 +44,14 @@ module _ (n d : ℕ) where
       (λ u. up (ltb-true d (2 * (n % d)) u))
       (λ u. let most = ltb-false d (2 * (n % d)) u in even (omega arith)))
 
-  rounded-between : (n / d ≤ nearest n d) × (nearest n d ≤ n / d + 1)
-  rounded-between =
-      by-rest
-      (λ h. rw (rounded-down h) (omega arith))
-      (λ e. rw (rounded-even e) (omega (arith, even-is (n / d))))
-      (λ h. rw (rounded-up h) (omega arith))
+  -- The prover's library has the same rounding, for its floating-point numbers.
+  pub as-closest : nearest n d ≡ closest n d
+  as-closest = go (compare (n % d * 2) d) refl
+    where
+      go : (o : Ordering) → compare (n % d * 2) d ≡ o → nearest n d ≡ ieee.nearest (n / d) o
+      go Ordering·lt e = rounded-down (omega (arith, leb-true (n % d * 2) d (ap isLe e), eqb-false (n % d * 2) d (ap isEq e)))
+      go Ordering·eq e = rounded-even (omega (arith, eqb-true (n % d * 2) d (ap isEq e))) ∙ even-is (n / d)
+      go Ordering·gt e = rounded-up (omega (arith, leb-false (n % d * 2) d (ap isLe e))) ∙ add-one (n / d)
 
 -- 0 and every other whole number stay as they are.
 
@@ -64,19 +69,7 @@ nearest-whole m {d} one =
 
 -- What is rounded grows, and so does what it is rounded to.
 pub nearest-grows : (d : ℕ) {n m : ℕ} → 1 ≤ d → n ≤ m → nearest n d ≤ nearest m d
-nearest-grows d {n} {m} one h =
-    let quotients : n / d ≤ m / d = le-div-iff-mul-le one .1 (le-trans (div-mul-le-self n d) h) in
-    cases (ltb (n / d) (m / d))
-    (λ t. omega (arith, ltb-true (n / d) (m / d) t, rounded-between n d .1, rounded-between m d .0))
-    (λ t. let same : n / d ≡ m / d = omega (arith, ltb-false (n / d) (m / d) t) in
-    let rests : n % d ≤ m % d = omega (arith, div-add-mod' n d, div-add-mod' m d, ap (λ q. q * d) same) in
-    by-rest m d
-    (λ u. rw (rounded-down m d u, rounded-down n d (omega arith)) (omega arith))
-    (λ e. by-rest n d
-    (λ u. rw (rounded-down n d u) (omega (arith, rounded-between m d .0)))
-    (λ u. omega (arith, rounded-even n d u, rounded-even m d e, ap evenOf same))
-    (λ u. omega arith))
-    (λ u. omega (arith, rounded-up m d u, rounded-between n d .1)))
+nearest-grows d {n} {m} one h = rw (as-closest n d, as-closest m d) (closest-mono n d m d one one (mul-le-mul-right d h))
 
 -- The request's words.
 module _ (n d : ℕ) (one : 1 ≤ d) where
