@@ -10,7 +10,7 @@ use native.Mathlib.Omega.{arith}
 use lib.Dec.{eqb, ltb}
 use borrow.Author.Tests.{ltb-true, ltb-false, eqb-true, ne-eqb}
 use borrow.Table.Steps.{cases}
-use Rattle.laws.specs.Below.{allBelow, anyBelow, maxBelow, argmax, lastBelow, sumBelow, indicator, countBelow}
+use Rattle.laws.specs.Below.{allBelow, anyBelow, maxBelow, argmax, lastBelow, sumBelow, sumBetween, indicator, countBelow}
 use Rattle.laws.proofs.Tests.{and-left, and-right, and-both, and-second-fails, or-first, or-second, or-fails}
 
 -- One number more, as a loop counts.
@@ -240,6 +240,58 @@ sum-weighted zero weight f bound each = omega arith
 sum-weighted (suc n) weight f bound each =
     let last : weight n * f n ≤ bound * f n = mul-le-mul-right (f n) (each n (omega arith)) in
     omega (arith, sum-weighted n weight f bound (λ k h. each k (omega arith)))
+
+-- The sum of one stretch after another.
+pub sum-append : (m n : ℕ) (f : ℕ → ℕ) → sumBelow (m + n) f ≡ sumBelow m f + sumBelow n (λ k. f (m + k))
+unfolding sumBelow
+sum-append m zero f = rw (add-zero m) (sym (add-zero (sumBelow m f)))
+sum-append m (suc n) f = rw add-suc (omega (arith, sum-append m n f))
+
+pub sum-first : (n : ℕ) (f : ℕ → ℕ) → sumBelow (suc n) f ≡ f 0 + sumBelow n (λ k. f (suc k))
+unfolding sumBelow
+sum-first zero f = omega arith
+sum-first (suc n) f = omega (arith, sum-first n f)
+
+-- Sums from one number to before another.
+
+pub between-below : (a b : ℕ) (f : ℕ → ℕ) → a ≤ b → sumBelow b f ≡ sumBelow a f + sumBetween a b f
+unfolding sumBetween
+between-below a b f h = ap (λ n. sumBelow n f) (let split : b ≡ a + (b - a) = omega arith in split) ∙ sum-append a (b - a) f
+
+pub between-all : (n : ℕ) (f : ℕ → ℕ) → sumBetween 0 n f ≡ sumBelow n f
+unfolding sumBelow
+between-all n f = omega (arith, between-below 0 n f (omega arith))
+
+pub between-append : (a b c : ℕ) (f : ℕ → ℕ) → a ≤ b → b ≤ c → sumBetween a c f ≡ sumBetween a b f + sumBetween b c f
+between-append a b c f h l =
+    omega (arith, between-below a c f (omega arith), between-below a b f h, between-below b c f l)
+
+pub between-none : (a b : ℕ) (f : ℕ → ℕ) → ((k : ℕ) → a ≤ k → k < b → f k ≡ 0) → sumBetween a b f ≡ 0
+unfolding sumBetween
+between-none a b f none =
+    let within = sum-within (b - a) (λ k. f (a + k)) 0 (λ k h. let zero = none (a + k) (omega arith) (omega arith) in omega arith) in
+    omega arith
+
+pub between-same : (a b : ℕ) (f g : ℕ → ℕ) → ((k : ℕ) → a ≤ k → k < b → f k ≡ g k) → sumBetween a b f ≡ sumBetween a b g
+unfolding sumBetween
+between-same a b f g same = sum-same (b - a) _ _ (λ k h. same (a + k) (omega arith) (omega arith))
+
+-- Of values that have a bound, and of which those of m numbers in a row alone are not 0, the sum is at most m times the bound.
+pub sum-few : (n : ℕ) (f : ℕ → ℕ) (a m bound : ℕ) → ((k : ℕ) → f k ≤ bound) → ((k : ℕ) → k < a → f k ≡ 0) → ((k : ℕ) → a + m ≤ k → f k ≡ 0)
+    → sumBelow n f ≤ m * bound
+unfolding sumBetween sumBelow
+sum-few n f a m bound most before after =
+    let b = a + m in
+    let total = n + b in
+    let fewer = sum-fewer total n f (omega arith) in
+    let early = between-none 0 a f (λ k _ h. before k h) in
+    let late = between-none b total f (λ k h _. after k h) in
+    let inside = sum-within m (λ k. f (a + k)) bound (λ k h. most (a + k)) in
+    let first = between-below 0 a f (omega arith) in
+    let second = between-below a b f (omega arith) in
+    let third = between-below b total f (omega arith) in
+    let middle : sumBetween a b f ≡ sumBelow m (λ k. f (a + k)) = ap (λ n. sumBelow n (λ k. f (a + k))) (let e : b - a ≡ m = omega arith in e) in
+    omega arith
 
 -- Where at most x is added to one value and nothing to the others, at most x is added to the sum.
 pub sum-one-more : (n : ℕ) (f g : ℕ → ℕ) (at x : ℕ) → ((k : ℕ) → k < n → g k ≤ f k + cond (eqb at k) x 0) → sumBelow n g ≤ sumBelow n f + x

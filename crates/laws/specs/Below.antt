@@ -1,5 +1,5 @@
--- Tests, counts, the greatest and the last over the numbers below n. Each is defined by one number more.
-use Prim.Native.Nat.{ℕ, zero, suc, _+_, max}
+-- Tests, counts, sums, the greatest and the last over the numbers below n. Each is defined by one number more.
+use Prim.Native.Nat.{ℕ, zero, suc, _+_, _-_, max}
 use mathlib.Core.Bool.{Bool, true, false, cond, _&&_, _||_}
 use lib.Dec.{ltb}
 
@@ -32,6 +32,10 @@ lastBelow (suc n) p = cond (p n) n (lastBelow n p)
 unfoldable pub sumBelow : ℕ → (ℕ → ℕ) → ℕ
 sumBelow zero f = 0
 sumBelow (suc n) f = sumBelow n f + f n
+
+-- The sum of the values of f from number a to before number b.
+unfoldable pub sumBetween : ℕ → ℕ → (ℕ → ℕ) → ℕ
+sumBetween a b f = sumBelow (b - a) (λ k. f (a + k))
 
 -- 1 where a test passes, 0 where it fails.
 abbrev pub indicator : Bool → ℕ
