@@ -1,4 +1,5 @@
 pub mod Words
+pub mod Changes
 pub mod Totals
 pub mod Drops
 pub mod QuietTick

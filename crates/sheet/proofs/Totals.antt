@@ -1,27 +1,22 @@
 -- Laws of the total of a tick: what the 16 contacts draw together. It bounds the drop.
 -- Assumes nothing.
-use Prim.Native.Nat.{ℕ, _+_, _*_, _/_, _%_, _-_, _≤_, _<_}
+use Prim.Native.Nat.{ℕ, _+_, _*_, _/_, _-_, _≤_, _<_}
 use mathlib.Core.List.{List}
-use mathlib.Core.Path.{_≡_, ap}
+use mathlib.Core.Path.{_≡_}
 use native.Mathlib.Omega.{arith}
 use lib.ListN.{length, getD}
 use Rattle.laws.specs.Below.{maxBelow, sumBelow}
-use Rattle.laws.proofs.Below.{max-within, sum-within, sum-at, sum-fewer, sum-weighted}
+use Rattle.laws.proofs.Below.{max-within, sum-within, sum-fewer, sum-weighted}
 use Rattle.block.specs.Limits.{blockLimit, resistanceLimit, dropLimit}
-use Rattle.sheet.specs.Sheet.{Sheet, dropAt, dropOf, sheetIn}
+use Rattle.sheet.specs.Changes.{restoredIn}
+use Rattle.sheet.specs.Sheet.{Sheet, dropAt, dropOf}
 use Rattle.sheet.specs.Words.{Cleared}
+use Rattle.sheet.proofs.Changes.{cleared-restored}
 
--- Cleared words have none.
-pub total-cleared : {words : List ℕ} → Cleared words → (t : ℕ) → sumBelow 16 (λ c. sheetIn words c t) ≡ 0
+-- Cleared words give none.
+pub total-cleared : {words : List ℕ} → Cleared words → (t : ℕ) → sumBelow 16 (λ c. restoredIn words c t) ≡ 0
 total-cleared {words} none t =
-    omega (arith, sum-within 16 (λ c. sheetIn words c t) 0 (λ c h. rw (none .at (512 * c + t)) (omega arith)))
-
--- No word is above the total of its tick.
-pub word-within-total : (words : List ℕ) (i : ℕ) → i < 8192 → getD words i 0 ≤ sumBelow 16 (λ c. sheetIn words c (i % 512))
-word-within-total words i h =
-    let place : 512 * (i / 512) + i % 512 ≡ i = omega arith in
-    let least = sum-at 16 (λ c. sheetIn words c (i % 512)) (i / 512) (omega arith) in
-    omega (arith, ap (λ j. getD words j 0) place)
+    omega (arith, sum-within 16 (λ c. restoredIn words c t) 0 (λ c h. rw (cleared-restored none c t) (omega arith)))
 
 -- The part of a drop that the first n contacts have, by the resistance of each.
 abbrev pub dropPart : (ℕ → ℕ) → Sheet → ℕ → ℕ → ℕ

@@ -1,4 +1,5 @@
 pub mod Sheet
 pub mod Quiet
 pub mod Words
+pub mod Changes
 pub mod Sums

@@ -33,7 +33,7 @@ fn add_contact(sums: &mut [u64], resistance: u64, sheet: &[Word], start: usize, 
 {
     let mut t: usize = 0;
     while t < stop {
-        sums[t] = sums[t] + resistance * numbers::u64_from_u32(sheet[start + t]);
+        sums[t] = sums[t] + resistance * sheet[start + t];
         t += 1;
     }
 }
@@ -79,7 +79,7 @@ fn node_drop(table: &[u16], node: usize, sheet: &[Word], t: usize) -> u64
     let mut contact: usize = 0;
     while contact < 16 {
         let resistance = numbers::u64_from_u16(table[16 * node + contact]);
-        sum += resistance * numbers::u64_from_u32(sheet[512 * contact + t]);
+        sum += resistance * sheet[512 * contact + t];
         contact += 1;
     }
     sum

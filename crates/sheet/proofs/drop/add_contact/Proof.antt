@@ -1,7 +1,7 @@
 -- `sheet::drop::add_contact` meets its contract.
 -- Assumes nothing.
 use Prim.Native.Nat.{_-_, _≤_}
-use mathlib.Core.Path.{_≡_}
+use mathlib.Core.Path.{_≡_, refl}
 use native.Mathlib.Omega.{arith}
 use borrow.Author.Needs.{needs}
 use Rattle.laws.specs.Rewritten.{Rewritten}
@@ -24,35 +24,28 @@ mul-sums : tie.Need-mul-sums Inv-loop μ-loop
 mul-sums c = search needs
 
 slice-read-sums : tie.Need-slice-read-sums Inv-loop μ-loop
-slice-read-sums c = omega (arith, c .before .before .loop .inv .1 .long, c .before .before .before .before .before .pre .long, c .before .before .before .before .before .pre .in-row)
-
-add-u64-from-u32 : tie.Need-add-u64-from-u32 Inv-loop μ-loop
-add-u64-from-u32 c = search needs
-
-mul-u64-from-u32 : tie.Need-mul-u64-from-u32 Inv-loop μ-loop
-mul-u64-from-u32 c = search needs
-
-shared-slice-read-u64-from-u32 : tie.Need-shared-slice-read-u64-from-u32 Inv-loop μ-loop
-shared-slice-read-u64-from-u32 c = search needs
-
-u64-from-u32-requires : tie.Need-u64-from-u32-requires Inv-loop μ-loop
-u64-from-u32-requires c κs = search needs
-
-mul-sums-2 : tie.Need-mul-sums-2 Inv-loop μ-loop
-mul-sums-2 c =
-    let loop = c .before .before .before .before .loop in
-    omega (arith, contact-fits (c .before .before .before .before .before .before .before .pre) (omega arith) (loop .inv .1) (c .u64-from-u32 .ensures .0))
+slice-read-sums c = omega (arith, c .before .before .loop .inv .1 .long, c .before .before .before .pre .long, c .before .before .before .pre .in-row)
 
 add-sums : tie.Need-add-sums Inv-loop μ-loop
-add-sums c =
-    let loop = c .before .before .before .before .loop in
-    omega (arith, contact-fits (c .before .before .before .before .before .before .before .pre) (omega arith) (loop .inv .1) (c .u64-from-u32 .ensures .0))
+add-sums c = search needs
+
+mul-sums-2 : tie.Need-mul-sums-2 Inv-loop μ-loop
+mul-sums-2 c = search needs
+
+shared-slice-read-sums : tie.Need-shared-slice-read-sums Inv-loop μ-loop
+shared-slice-read-sums c = search needs
 
 mul-sums-3 : tie.Need-mul-sums-3 Inv-loop μ-loop
-mul-sums-3 c = search needs
+mul-sums-3 c = omega (arith, contact-fits (c .before .before .before .before .pre) (omega arith) (c .before .before .before .loop .inv .1) refl)
+
+add-sums-2 : tie.Need-add-sums-2 Inv-loop μ-loop
+add-sums-2 c = omega (arith, contact-fits (c .before .before .before .before .pre) (omega arith) (c .before .before .before .loop .inv .1) refl)
+
+mul-sums-4 : tie.Need-mul-sums-4 Inv-loop μ-loop
+mul-sums-4 c = search needs
 
 slice-write-sums : tie.Need-slice-write-sums Inv-loop μ-loop
-slice-write-sums c = omega (arith, c .before .before .before .before .loop .inv .1 .long, c .before .before .before .before .before .before .before .pre .long, c .before .before .before .before .before .before .before .pre .in-row)
+slice-write-sums c = omega (arith, c .before .before .before .loop .inv .1 .long, c .before .before .before .before .pre .long, c .before .before .before .before .pre .in-row)
 
 add-t : tie.Need-add-t Inv-loop μ-loop
 add-t c = search needs
@@ -62,11 +55,11 @@ loop-less c = search needs
 
 loop-again : tie.Need-loop-again Inv-loop μ-loop
 loop-again c =
-    let start = c .before .before .before .before .before .before .before in
-    let loop = c .before .before .before .before .loop in (
+    let start = c .before .before .before .before in
+    let loop = c .before .before .before .loop in (
       omega arith,
       rewritten-next _ 0 (loop .t) _ _ _ _ (omega arith) (omega (arith, start .pre .long, start .pre .in-row))
-          (to-contact (start .args .resistance) (start .args .sheet .now) (start .args .start) (loop .inv .1) (c .u64-from-u32 .ensures .0)) (loop .inv .1),
+          (to-contact (start .args .resistance) (start .args .sheet .now) (start .args .start) (loop .inv .1) refl) (loop .inv .1),
     )
 
 same-length : tie.Need-same-length Inv-loop μ-loop
@@ -75,7 +68,7 @@ same-length c = c .before .loop .inv .1 .long
 returns : tie.Need-returns Inv-loop μ-loop
 returns c =
     let loop = c .before .loop in
-    let e : loop .t ≡ c .before .before .before .before .args .stop = omega arith in
+    let e : loop .t ≡ c .before .before .args .stop = omega arith in
     rw e at (loop .inv .1)
 
 pub add-contact-spec : {M : Type 1} → statement M
@@ -87,13 +80,12 @@ add-contact-spec =
     loop-holds
     mul-sums
     slice-read-sums
-    add-u64-from-u32
-    mul-u64-from-u32
-    shared-slice-read-u64-from-u32
-    u64-from-u32-requires
-    mul-sums-2
     add-sums
+    mul-sums-2
+    shared-slice-read-sums
     mul-sums-3
+    add-sums-2
+    mul-sums-4
     slice-write-sums
     add-t
     loop-less

@@ -38,36 +38,35 @@ shared-slice-read-u64-from-u16 c = search needs
 u64-from-u16-requires : tie.Need-u64-from-u16-requires Inv-loop μ-loop
 u64-from-u16-requires c κs = search needs
 
-mul-u64-from-u32 : tie.Need-mul-u64-from-u32 Inv-loop μ-loop
-mul-u64-from-u32 c = search needs
-
-add-u64-from-u32 : tie.Need-add-u64-from-u32 Inv-loop μ-loop
-add-u64-from-u32 c = search needs
-
-mul-u64-from-u32-2 : tie.Need-mul-u64-from-u32-2 Inv-loop μ-loop
-mul-u64-from-u32-2 c = search needs
-
-shared-slice-read-u64-from-u32 : tie.Need-shared-slice-read-u64-from-u32 Inv-loop μ-loop
-shared-slice-read-u64-from-u32 c = search needs
-
-u64-from-u32-requires : tie.Need-u64-from-u32-requires Inv-loop μ-loop
-u64-from-u32-requires c κs = search needs
-
--- The sum with the contact is below the limit.
-sum-small : (c : tie.After-u64-from-u32 Inv-loop μ-loop)
-    → c .before .before .before .before .before .loop .sum + c .before .before .u64-from-u16 .result * c .u64-from-u32 .result < dropLimit
-sum-small c =
-    let start = c .before .before .before .before .before .before .before .before in
-    let loop = c .before .before .before .before .before .loop in
-    node-small (start .args .table .now) (start .args .sheet .now) (start .args .node) (start .args .t) (loop .contact) (loop .inv .1)
-    (c .before .before .u64-from-u16 .ensures .0) (c .u64-from-u32 .ensures .0) (omega arith)
-    (λ i. omega (arith, c .before .before .before .before .before .before .before .shared-slice-known .given i)) (start .pre .1)
-
 mul-sum : tie.Need-mul-sum Inv-loop μ-loop
-mul-sum c = omega (arith, sum-small c)
+mul-sum c = search needs
 
 add-sum : tie.Need-add-sum Inv-loop μ-loop
-add-sum c = omega (arith, sum-small c)
+add-sum c = search needs
+
+mul-sum-2 : tie.Need-mul-sum-2 Inv-loop μ-loop
+mul-sum-2 c = search needs
+
+shared-slice-read-sum : tie.Need-shared-slice-read-sum Inv-loop μ-loop
+shared-slice-read-sum c = search needs
+
+-- The sum with the contact is below the limit.
+sum-small : (c : tie.After-shared-slice-known4 Inv-loop μ-loop)
+    → c .before .before .before .before .loop .sum
+    + c .before .u64-from-u16 .result * getD (c .before .before .before .before .before .before .before .args .sheet .now) (512 * c .before .before .before .before .loop .contact + c .before .before .before .before .before .before .before .args .t) 0
+    < dropLimit
+sum-small c =
+    let start = c .before .before .before .before .before .before .before in
+    let loop = c .before .before .before .before .loop in
+    node-small (start .args .table .now) (start .args .sheet .now) (start .args .node) (start .args .t) (loop .contact) (loop .inv .1)
+    (c .before .u64-from-u16 .ensures .0) refl (omega arith)
+    (λ i. omega (arith, c .before .before .before .before .before .before .shared-slice-known .given i)) (start .pre .1)
+
+mul-sum-3 : tie.Need-mul-sum-3 Inv-loop μ-loop
+mul-sum-3 c = omega (arith, sum-small c)
+
+add-sum-2 : tie.Need-add-sum-2 Inv-loop μ-loop
+add-sum-2 c = omega (arith, sum-small c)
 
 add-contact : tie.Need-add-contact Inv-loop μ-loop
 add-contact c = search needs
@@ -77,9 +76,9 @@ loop-less c = search needs
 
 loop-again : tie.Need-loop-again Inv-loop μ-loop
 loop-again c =
-    let start = c .before .before .before .before .before .before .before .before in
-    let loop = c .before .before .before .before .before .loop in
-    (omega arith, node-next (start .args .table .now) (start .args .sheet .now) (start .args .node) (start .args .t) (loop .contact) (loop .inv .1) (c .before .before .u64-from-u16 .ensures .0) (c .u64-from-u32 .ensures .0))
+    let start = c .before .before .before .before .before .before .before in
+    let loop = c .before .before .before .before .loop in
+    (omega arith, node-next (start .args .table .now) (start .args .sheet .now) (start .args .node) (start .args .t) (loop .contact) (loop .inv .1) (c .before .u64-from-u16 .ensures .0) refl)
 
 returns : tie.Need-returns Inv-loop μ-loop
 unfolding dropAt
@@ -100,13 +99,12 @@ node-drop-spec =
     mul-u64-from-u16-2
     shared-slice-read-u64-from-u16
     u64-from-u16-requires
-    mul-u64-from-u32
-    add-u64-from-u32
-    mul-u64-from-u32-2
-    shared-slice-read-u64-from-u32
-    u64-from-u32-requires
     mul-sum
     add-sum
+    mul-sum-2
+    shared-slice-read-sum
+    mul-sum-3
+    add-sum-2
     add-contact
     loop-less
     loop-again
