@@ -1,51 +1,55 @@
--- One pass over a gate's ticks: which run comes next, and that a step over it keeps what the pass has made of the row.
+-- One pass over a gate's ticks: which run comes next, and that a step over it adds the pulses which its ticks allow.
 -- Assumes nothing.
-use Prim.Native.Nat.{ℕ, _+_, _-_, _≤_, _<_, max}
+use Prim.Native.Nat.{ℕ, _+_, _-_, _≤_, _<_}
 use mathlib.Core.Bool.{Bool, true, false, cond, not, _&&_, and-true, false≢true}
 use mathlib.Core.List.{List}
 use mathlib.Core.Logic.{inl, inr}
 use mathlib.Core.Path.{_≡_, refl, sym, ap, _∙_}
-use native.Mathlib.Nat.{le-refl, le-trans, le-antisymm, max-le, le-max-left, le-max-right}
+use native.Mathlib.Nat.{le-refl}
 use native.Mathlib.Omega.{arith}
-use lib.Dec.{ltb}
-use lib.ListN.{getD, length, replicate}
-use borrow.Author.Tests.{ltb-true, ltb-false, not-true}
+use lib.ListN.{length, replicate}
+use borrow.Author.Tests.{not-true}
 use borrow.Table.Steps.{cases}
-use Rattle.laws.specs.Below.{maxBelow}
-use Rattle.laws.proofs.Below.{max-at, max-within, max-same, max-beyond}
+use Rattle.laws.specs.Below.{sumBetween}
+use Rattle.laws.proofs.Below.{sum-same, between-append, between-none, between-same}
 use Rattle.laws.proofs.Lists.{replicate-at}
 use Rattle.laws.proofs.Tests.{and-right, or-fails, or-cases}
 use Rattle.bits.specs.Bits.{rowBit}
 use Rattle.block.specs.Limits.{peakLimit}
 use Rattle.block.specs.declared.Gate.{Gate}
+use Rattle.sheet.proofs.Changes.{added-none, added-same, added-both}
 use Rattle.runs.specs.Rows.{NextAt}
 use Rattle.runs.proofs.Walk.{run-long}
-use Rattle.current.specs.Edges.{peakOf, pulseOf, PulseFields, GateEdges, edgePulse, allowedPulse, Passed, NoTick, Without, Either, TicksByPeak, NextRun, placeOf, ShapesMade}
+use Rattle.current.specs.Current.{edgePulse}
+use Rattle.current.specs.Edges.{peakOf, pulseOf, PulseFields, GateEdges, pulseByRows, Passed, NoTick, Without, Either, TicksByPeak, NextRun, placeOf, ShapesMade}
 use Rattle.current.specs.declared.edge.Run.{Run}
 use Rattle.current.specs.declared.level.Pulse.{Pulse}
 use Rattle.current.specs.Levels.{InRange, factorOf, Factored}
 use Rattle.current.specs.Pulse.{pulseAt}
-use Rattle.current.specs.Runs.{ShapeMade, Shaped, runPulse, RunDrawn}
+use Rattle.current.specs.Runs.{ShapeMade, Shaped, RunDrawn}
 use Rattle.current.proofs.Pulses.{pulse-at-grows}
-use Rattle.current.proofs.Rows.{run-covers, run-within, shaped, shape-kept}
+use Rattle.current.proofs.Runs.{same-age, shaped, shape-kept}
 
 -- What a gate's fields give to the drawing of its pulses.
 module _ {gate : Gate} (fields : PulseFields gate) where
+  pub range-of : (P : ℕ) → P < peakLimit → InRange P (gate .rise) (gate .fall)
+  range-of P high =
+      let ranges = fields .ranges in
+      record {
+        peak-high = high;
+        rise-low = ranges .rise-low;
+        rise-high = (let rise = ranges .rise-high in omega arith);
+        fall-low = ranges .fall-low;
+        fall-high = (let fall = ranges .fall-high in omega arith);
+      }
+
   peak-high : (is-greater : Bool) → peakOf gate is-greater < peakLimit
   unfolding peakOf
   peak-high true = let lh-high = fields .fits .peak-lh-high in let hl-high = fields .fits .peak-hl-high in omega arith
   peak-high false = let lh-high = fields .fits .peak-lh-high in let hl-high = fields .fits .peak-hl-high in omega arith
 
   pub in-range : (is-greater : Bool) → InRange (peakOf gate is-greater) (gate .rise) (gate .fall)
-  in-range is-greater =
-      let ranges = fields .ranges in
-      record {
-        peak-high = peak-high is-greater;
-        rise-low = ranges .rise-low;
-        rise-high = (let high = ranges .rise-high in omega arith);
-        fall-low = ranges .fall-low;
-        fall-high = (let high = ranges .fall-high in omega arith);
-      }
+  in-range is-greater = range-of (peakOf gate is-greater) (peak-high is-greater)
 
   pub factored : (is-greater : Bool) {pulse : Pulse} {rising falling : ℕ} → pulse ≡ pulseOf gate is-greater → rising ≡ factorOf (gate .rise)
       → falling ≡ factorOf (gate .fall) → Factored (pulse .peak) (pulse .rise) (pulse .fall) rising falling
@@ -56,7 +60,7 @@ module _ {gate : Gate} (fields : PulseFields gate) where
   sorted = omega arith
 
 -- Both places leave room for a whole shape.
-pub place-low : (is-greater : Bool) → placeOf is-greater ≤ 256
+pub place-low : (is-greater : Bool) → placeOf is-greater ≤ 264
 unfolding placeOf
 place-low true = omega arith
 place-low false = omega arith
@@ -116,16 +120,16 @@ tick-found : (some : Bool) (ticks : List ℕ) → (some ≡ false → NoTick tic
 tick-found some ticks none x h held = cases some (λ b. b) (λ b. absurd (false≢true (sym (none b x h) ∙ held)))
 
 -- The shapes that a run needs are made.
-module _ {gate : Gate} (fields : PulseFields gate) {zeros first second : List ℕ} {some some-lower : Bool} (empty : zeros ≡ replicate 512 0)
+module _ {gate : Gate} (fields : PulseFields gate) {zeros first second : List ℕ} {some some-lower : Bool} (empty : zeros ≡ replicate 528 0)
     (one : ShapeMade some (peakOf gate true) (gate .rise) (gate .fall) (placeOf true) zeros first)
     (other : ShapeMade some-lower (peakOf gate false) (gate .rise) (gate .fall) (placeOf false) first second) where
-  all-long : length second ≡ 512
+  all-long : length second ≡ 528
   all-long = other .long ∙ one .long ∙ ap length empty
 
   greater-shaped : some ≡ true → Shaped (peakOf gate true) (gate .rise) (gate .fall) (placeOf true) second
   unfolding placeOf
   greater-shaped needed =
-      let shape = shaped (in-range fields true) (omega arith) (one .long ∙ ap length empty) (λ k l. rw empty (replicate-at 512 (0 + k) 0)) (one .made needed) in
+      let shape = shaped (in-range fields true) (omega arith) (one .long ∙ ap length empty) (λ k l. rw empty (replicate-at 528 (0 + k) 0)) (one .made needed) in
       record { long = all-long; low = omega arith; at = λ k l. shape-kept other (0 + k) (inl (omega arith)) ∙ shape .at k l }
 
   lower-shaped : some-lower ≡ true → Shaped (peakOf gate false) (gate .rise) (gate .fall) (placeOf false) second
@@ -134,7 +138,7 @@ module _ {gate : Gate} (fields : PulseFields gate) {zeros first second : List �
       let rise = fields .ranges .rise-high in
       let fall = fields .ranges .fall-high in
       shaped (in-range fields false) (omega arith) all-long
-      (λ k l. shape-kept one (256 + k) (inr (omega arith)) ∙ rw empty (replicate-at 512 (256 + k) 0)) (other .made needed)
+      (λ k l. shape-kept one (264 + k) (inr (omega arith)) ∙ rw empty (replicate-at 528 (264 + k) 0)) (other .made needed)
 
   pub shapes-made : (greater lower : List ℕ) → (some ≡ false → NoTick greater) → (some-lower ≡ false → NoTick lower) → ShapesMade gate greater lower second
   shapes-made greater lower none no-lower = record { long = all-long; made = made-for }
@@ -144,136 +148,129 @@ module _ {gate : Gate} (fields : PulseFields gate) {zeros first second : List �
       made-for true x h held = greater-shaped (tick-found some greater none x h held)
       made-for false x h held = lower-shaped (tick-found some-lower lower no-lower x h held)
 
--- An edge that the set of a tick allows, and one that it does not.
-module _ (gate : Gate) (is-greater : Bool) (ticks : List ℕ) (x t : ℕ) where
-  pub edge-allowed : rowBit ticks x ≡ true → edgePulse gate is-greater ticks x t ≡ pulseAt (peakOf gate is-greater) (gate .rise) (gate .fall) (gate .delay) x t
+-- An edge that a tick allows, and one that it does not.
+module _ (gate : Gate) (P : ℕ) (x t : ℕ) where
+  pub edge-allowed : {allowed : Bool} → allowed ≡ true → edgePulse gate P allowed x t ≡ pulseAt P (gate .rise) (gate .fall) (gate .delay) x t
   unfolding edgePulse
-  edge-allowed held = rw held refl
+  edge-allowed e = rw e refl
 
-  pub edge-not-allowed : rowBit ticks x ≡ false → edgePulse gate is-greater ticks x t ≡ 0
+  pub edge-not-allowed : {allowed : Bool} → allowed ≡ false → edgePulse gate P allowed x t ≡ 0
   unfolding edgePulse
-  edge-not-allowed none = rw none refl
+  edge-not-allowed e = rw e refl
 
-  edge-at-most : edgePulse gate is-greater ticks x t ≤ pulseAt (peakOf gate is-greater) (gate .rise) (gate .fall) (gate .delay) x t
-  edge-at-most = cases (rowBit ticks x) (λ held. rw (edge-allowed held) (le-refl _)) (λ none. rw (edge-not-allowed none) (omega arith))
+  pub edge-at-most : (allowed : Bool) → edgePulse gate P allowed x t ≤ pulseAt P (gate .rise) (gate .fall) (gate .delay) x t
+  unfolding edgePulse
+  edge-at-most true = le-refl _
+  edge-at-most false = omega arith
 
--- The greater pulse that the set of a tick allows is that of one peak: none, the lower or the greater.
+-- The greater pulse that a tick allows is that of one peak: none, the lower or the greater.
 module _ (gate : Gate) (greater lower : List ℕ) (x t : ℕ) where
-  none-allowed : rowBit greater x ≡ false → rowBit lower x ≡ false → allowedPulse gate greater lower x t ≡ 0
-  unfolding allowedPulse
+  pub none-allowed : rowBit greater x ≡ false → rowBit lower x ≡ false → pulseByRows gate greater lower x t ≡ 0
+  unfolding pulseByRows
   none-allowed none no-lower =
-      let one = edge-not-allowed gate true greater x t none in
-      let other = edge-not-allowed gate false lower x t no-lower in
+      let one = edge-not-allowed gate (peakOf gate true) x t none in
+      let other = edge-not-allowed gate (peakOf gate false) x t no-lower in
       omega arith
 
   greater-allowed : PulseFields gate → rowBit greater x ≡ true
-      → allowedPulse gate greater lower x t ≡ pulseAt (peakOf gate true) (gate .rise) (gate .fall) (gate .delay) x t
-  unfolding allowedPulse
+      → pulseByRows gate greater lower x t ≡ pulseAt (peakOf gate true) (gate .rise) (gate .fall) (gate .delay) x t
+  unfolding pulseByRows
   greater-allowed fields held =
-      let one = edge-allowed gate true greater x t held in
-      let other = edge-at-most gate false lower x t in
+      let one = edge-allowed gate (peakOf gate true) x t held in
+      let other = edge-at-most gate (peakOf gate false) x t (rowBit lower x) in
       let less = pulse-at-grows (in-range fields true) (sorted fields) (gate .delay) x t in
       omega arith
 
   lower-allowed : rowBit greater x ≡ false → rowBit lower x ≡ true
-      → allowedPulse gate greater lower x t ≡ pulseAt (peakOf gate false) (gate .rise) (gate .fall) (gate .delay) x t
-  unfolding allowedPulse
+      → pulseByRows gate greater lower x t ≡ pulseAt (peakOf gate false) (gate .rise) (gate .fall) (gate .delay) x t
+  unfolding pulseByRows
   lower-allowed none held =
-      let one = edge-not-allowed gate true greater x t none in
-      let other = edge-allowed gate false lower x t held in
+      let one = edge-not-allowed gate (peakOf gate true) x t none in
+      let other = edge-allowed gate (peakOf gate false) x t held in
       omega arith
 
   peak-allowed : PulseFields gate → (rowBit lower x ≡ true → rowBit greater x ≡ false) → (is-greater : Bool) → rowBit (cond is-greater greater lower) x ≡ true
-      → allowedPulse gate greater lower x t ≡ pulseAt (peakOf gate is-greater) (gate .rise) (gate .fall) (gate .delay) x t
+      → pulseByRows gate greater lower x t ≡ pulseAt (peakOf gate is-greater) (gate .rise) (gate .fall) (gate .delay) x t
   peak-allowed fields apart true held = greater-allowed fields held
   peak-allowed fields apart false held = lower-allowed (apart held) held
 
 -- Where the greater peak is allowed, the lower one may be left out.
 module _ {gate : Gate} (fields : PulseFields gate) {greater lower alone : List ℕ} (without : Without lower greater alone) where
-  same-allowed : (x t : ℕ) → rowBit alone x ≡ rowBit lower x → allowedPulse gate greater alone x t ≡ allowedPulse gate greater lower x t
-  unfolding allowedPulse edgePulse
+  same-allowed : (x t : ℕ) → rowBit alone x ≡ rowBit lower x → pulseByRows gate greater alone x t ≡ pulseByRows gate greater lower x t
+  unfolding pulseByRows
   same-allowed x t e = rw e refl
 
-  alone-allowed : (x t : ℕ) → x < 256 → allowedPulse gate greater alone x t ≡ allowedPulse gate greater lower x t
+  alone-allowed : (x t : ℕ) → x < 256 → pulseByRows gate greater alone x t ≡ pulseByRows gate greater lower x t
   alone-allowed x t h =
       cases (rowBit greater x)
       (λ held. greater-allowed gate greater alone x t fields held ∙ sym (greater-allowed gate greater lower x t fields held))
       (λ none. same-allowed x t (without .at x h ∙ ap (λ b. rowBit lower x && not b) none ∙ and-true (rowBit lower x)))
 
-  pub alone-passed : {n : ℕ} {row : List ℕ} → n ≤ 256 → Passed gate greater lower n row → Passed gate greater alone n row
-  alone-passed {n} in-time passed =
-      record { long = passed .long; at = λ t. passed .at t ∙ max-same n _ _ (λ x h. sym (alone-allowed x t (omega arith))) }
+  -- So the pass by the ticks at which the lower peak is alone is the pass over all ticks: none before the gate's delay allows an edge.
+  pub passed-all : {words after : List ℕ} → GateEdges gate greater lower → Passed gate greater alone (gate .delay) 256 words after
+      → Passed gate greater lower 0 256 words after
+  passed-all edges passed =
+      let late : gate .delay ≤ 256 = edges .greater-from .in-time in
+      added-same _ _
+      (λ t h.
+      let early = between-none 0 (gate .delay) (λ x. pulseByRows gate greater lower x t)
+      (λ x _ l. none-allowed gate greater lower x t (edges .greater-from .before x l) (edges .lower-from .before x l)) in
+      let whole = between-append 0 (gate .delay) 256 (λ x. pulseByRows gate greater lower x t) (omega arith) late in
+      let same = between-same (gate .delay) 256 (λ x. pulseByRows gate greater alone x t) (λ x. pulseByRows gate greater lower x t)
+      (λ x _ l. alone-allowed x t l) in
+      omega arith)
+      passed
 
-  pub passed-alone : {n : ℕ} {row : List ℕ} → n ≤ 256 → Passed gate greater alone n row → Passed gate greater lower n row
-  passed-alone {n} in-time passed =
-      record { long = passed .long; at = λ t. passed .at t ∙ max-same n _ _ (λ x h. alone-allowed x t (omega arith)) }
+-- The pass, run by run: nothing where it begins, then a run more, then nothing more.
+module _ (gate : Gate) (greater lower : List ℕ) where
+  pub passed-none : (from : ℕ) {words : List ℕ} → Passed gate greater lower from from words words
+  passed-none from = added-same _ _ (λ t h. sym (between-none from from _ (λ x low high. absurd (omega arith)))) added-none
 
--- The pass: nothing before the gate's delay, then run by run, then nothing more.
-module _ {gate : Gate} {greater lower : List ℕ} where
-  pub passed-none : {row : List ℕ} → GateEdges gate greater lower → row ≡ replicate 512 0 → Passed gate greater lower (gate .delay) row
-  unfolding maxBelow
-  passed-none edges zeros = record {
-    long = ap length zeros;
-    at = λ t. ap (λ row. getD row t 0) zeros ∙ replicate-at 512 t 0
-        ∙ sym (max-beyond (gate .delay) 0 (λ x. allowedPulse gate greater lower x t) (omega arith)
-        (λ x low h. none-allowed gate greater lower x t (edges .greater-from .before x h) (edges .lower-from .before x h)));
-  }
+  pub passed-more : {from to next : ℕ} {words between after : List ℕ} → from ≤ to → to ≤ next → Passed gate greater lower from to words between
+      → Passed gate greater lower to next between after → Passed gate greater lower from next words after
+  passed-more {from} {to} {next} low high first second =
+      added-same _ _ (λ t h. sym (between-append from to next (λ x. pulseByRows gate greater lower x t) low high)) (added-both _ _ first second)
 
-  pub passed-rest : {from : ℕ} {run : Run} {row : List ℕ} → NextRun greater lower from run → run .first ≡ 256 → from ≤ 256
-      → Passed gate greater lower from row → Passed gate greater lower 256 row
-  passed-rest {from} next past in-time passed = record {
-    long = passed .long;
-    at = λ t. passed .at t
-        ∙ sym (max-beyond 256 from (λ x. allowedPulse gate greater lower x t) in-time
-        (λ x low h. let none = next .before x low (omega arith) in none-allowed gate greater lower x t (none .0) (none .1)));
-  }
+  pub passed-rest : {from : ℕ} {run : Run} {words : List ℕ} → NextRun greater lower from run → run .first ≡ 256
+      → Passed gate greater lower from 256 words words
+  passed-rest {from} next past =
+      added-same _ _
+      (λ t h. sym (between-none from 256 _
+      (λ x low l. let none = next .before x low (omega arith) in none-allowed gate greater lower x t (none .0) (none .1))))
+      added-none
 
 -- A step of the pass: a run is drawn.
-module _ {gate : Gate} {greater lower all : List ℕ} {from : ℕ} {run : Run} {row after : List ℕ} (fields : PulseFields gate)
+module _ {gate : Gate} {greater lower all : List ℕ} {from : ℕ} {run : Run} {words after : List ℕ} (fields : PulseFields gate)
     (ticks : TicksByPeak greater lower all) (late : gate .delay ≤ from) (next : NextRun greater lower from run) (some : run .first < run .end)
-    (passed : Passed gate greater lower from row)
-    (drawn : RunDrawn (peakOf gate (run .greater)) (gate .rise) (gate .fall) (run .first - gate .delay) (run .end - 1 - gate .delay) row after) where
+    (drawn : RunDrawn (peakOf gate (run .greater)) (gate .rise) (gate .fall) (gate .contact) (run .first - gate .delay) (run .end - gate .delay) words after) where
   abbrev allowed : ℕ → ℕ → ℕ
-  allowed t x = allowedPulse gate greater lower x t
-
-  abbrev pulses : ℕ → ℕ
-  pulses = runPulse (peakOf gate (run .greater)) (gate .rise) (gate .fall) (run .first - gate .delay) (run .end - 1 - gate .delay)
-
-  ordered : run .first - gate .delay ≤ run .end - 1 - gate .delay
-  ordered = omega arith
+  allowed t x = pulseByRows gate greater lower x t
 
   inside : (x t : ℕ) → run .first ≤ x → x < run .end
-      → allowed t x ≡ pulseAt (peakOf gate (run .greater)) (gate .rise) (gate .fall) (gate .delay) x t
+      → allowed t x ≡ pulseAt (peakOf gate (run .greater)) (gate .rise) (gate .fall) 0 (x - gate .delay) t
   inside x t low h =
       let high = next .high in
+      let begun = next .low in
       peak-allowed gate greater lower x t fields (ticks .apart x (omega arith)) (run .greater) (next .inside x low h)
+      ∙ same-age (peakOf gate (run .greater)) (gate .rise) (gate .fall) (gate .delay) x t 0 (x - gate .delay) t (omega arith)
 
-  earlier : (t : ℕ) → maxBelow from (allowed t) ≤ maxBelow (run .end) (allowed t)
-  earlier t = let low = next .low in max-within from (allowed t) _ (λ x h. max-at (run .end) (allowed t) x (omega arith))
+  run-allowed : (t : ℕ) → sumBetween (run .first - gate .delay) (run .end - gate .delay) (λ x. pulseAt (peakOf gate (run .greater)) (gate .rise) (gate .fall) 0 x t)
+      ≡ sumBetween (run .first) (run .end) (allowed t)
+  unfolding sumBetween
+  run-allowed t =
+      let begun = next .low in
+      let count : run .end - gate .delay - (run .first - gate .delay) ≡ run .end - run .first = omega arith in
+      rw count
+      (sum-same (run .end - run .first) _ _
+      (λ k h. let place : run .first - gate .delay + k ≡ run .first + k - gate .delay = omega arith in
+      rw place (sym (inside (run .first + k) t (omega arith) (omega arith)))))
 
-  within : (t : ℕ) → pulses t ≤ maxBelow (run .end) (allowed t)
-  within t =
-      let low = next .low in
-      run-within (in-range fields (run .greater)) ordered (gate .delay) t _
-      (λ x begun ended. rw (sym (inside x t (omega arith) (omega arith))) (max-at (run .end) (allowed t) x (omega arith)))
-
-  covers : (t : ℕ) → maxBelow (run .end) (allowed t) ≤ max (maxBelow from (allowed t)) (pulses t)
-  covers t =
-      let low = next .low in
-      max-within (run .end) (allowed t) _
-      (λ x h.
-      cases (ltb x from)
-      (λ b. le-trans (max-at from (allowed t) x (ltb-true x from b)) (le-max-left _ _))
-      (λ b. let begun = ltb-false x from b in
-      cases (ltb x (run .first))
-      (λ u. let none = next .before x begun (ltb-true x (run .first) u) in
-      rw (none-allowed gate greater lower x t (none .0) (none .1)) (omega arith))
-      (λ u. let reached = ltb-false x (run .first) u in
-      rw (inside x t reached h)
-      (le-trans (run-covers (in-range fields (run .greater)) ordered (gate .delay) x (omega arith) (omega arith) t) (le-max-right _ _)))))
-
-  pub passed-run : Passed gate greater lower (run .end) after
-  passed-run = record {
-    long = drawn .long ∙ passed .long;
-    at = λ t. drawn .at t ∙ ap (λ word. max word (pulses t)) (passed .at t) ∙ le-antisymm (max-le (earlier t) (within t)) (covers t);
-  }
+  pub passed-run : Passed gate greater lower from (run .end) words after
+  passed-run =
+      added-same _ _
+      (λ t h.
+      let before = between-none from (run .first) (allowed t)
+      (λ x low l. let none = next .before x low l in none-allowed gate greater lower x t (none .0) (none .1)) in
+      let whole = between-append from (run .first) (run .end) (allowed t) (next .low) (omega arith) in
+      omega (arith, run-allowed t))
+      drawn

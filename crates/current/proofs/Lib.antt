@@ -2,11 +2,12 @@ pub mod Examples
 pub mod Rounding
 pub mod Levels
 pub mod Pulses
-pub mod Rows
-pub mod Ticks
+pub mod Runs
 pub mod Bits
 pub mod Transitions
 pub mod Edges
+pub mod Currents
+pub mod Sums
 pub mod Gates
 pub mod Contacts
 pub mod Totals

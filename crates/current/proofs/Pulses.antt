@@ -89,19 +89,6 @@ module _ {P r f : ℕ} (range : InRange P r f) where
   unfolding pulseAt
   pulse-at-most D x t = cases (ltb (t + D) x) (λ b. rw b (omega arith)) (λ b. rw b (pulse-most (t + D - x)))
 
-  pub pulse-rises : {j k : ℕ} → j ≤ k → k ≤ r → pulse P r f j ≤ pulse P r f k
-  pulse-rises {j} {k} h l = rw (pulse-up P r f k l, pulse-up P r f j (omega arith)) (level-rises P r (range .rise-low) h)
-
-  pub pulse-falls : {j k : ℕ} → r ≤ j → j ≤ k → pulse P r f k ≤ pulse P r f j
-  pulse-falls {j} {k} low h =
-      cases (eqb j r)
-      (λ t. let q : j ≡ r = eqb-true j r t in rw (q, pulse-top) (pulse-most k))
-      (λ t. let n = eqb-false j r t in
-      cases (leb k (r + f))
-      (λ u. let l = leb-true k (r + f) u in
-      rw (pulse-down P r f k (omega arith) l, pulse-down P r f j (omega arith) (omega arith)) (level-rises P f (range .fall-low) (omega arith)))
-      (λ u. rw (pulse-over P r f k (leb-false k (r + f) u)) (omega arith)))
-
 -- A pulse with a greater peak is nowhere below.
 module _ {P Q r f : ℕ} (range : InRange P r f) (h : Q ≤ P) where
   pulse-grows : (k : ℕ) → pulse Q r f k ≤ pulse P r f k

@@ -4,24 +4,19 @@ use mathlib.Core.Bool.{Bool, true, false, cond, not, _&&_, _||_}
 use mathlib.Core.List.{List}
 use mathlib.Core.Path.{_≡_}
 use lib.Dec.{leb}
-use lib.ListN.{length, getD}
-use Rattle.laws.specs.Below.{maxBelow}
+use lib.ListN.{length}
+use Rattle.laws.specs.Below.{sumBetween}
 use Rattle.bits.specs.Bits.{rowBit}
 use Rattle.excitation.specs.Excitation.{hl, lh}
 use Rattle.excitation.specs.declared.Excitation.{Excitation}
 use Rattle.block.specs.Accepted.{InRanges}
 use Rattle.block.specs.View.{FieldsFit}
 use Rattle.block.specs.declared.Gate.{Gate}
-use Rattle.runs.specs.Rows.{ticksIn}
-use Rattle.current.specs.Current.{ticksWhere}
-use Rattle.current.specs.Pulse.{pulseAt}
+use Rattle.sheet.specs.Changes.{Added}
+use Rattle.current.specs.Current.{edgePulse}
 use Rattle.current.specs.Runs.{Shaped}
 use Rattle.current.specs.declared.edge.Run.{Run}
 use Rattle.current.specs.declared.level.Pulse.{Pulse}
-
--- The ticks of a row of 256 bits.
-unfoldable pub ticksOfRow : List ℕ → List ℕ
-ticksOfRow row = ticksWhere (λ held. held) 0 (ticksIn row)
 
 -- The edge of a gate with the greater peak, or the other one, and its peak.
 unfoldable pub edgeOf : Gate → Bool → Excitation
@@ -51,20 +46,14 @@ pub record GateEdges (gate : Gate) (greater lower : List ℕ) : Type 0 where
   pub greater-from : TicksFrom (gate .delay) greater
   pub lower-from : TicksFrom (gate .delay) lower
 
--- The pulse at tick t of an edge at tick x, where the set of tick x allows that edge: `ticks` are the ticks whose sets do.
-unfoldable pub edgePulse : Gate → Bool → List ℕ → ℕ → ℕ → ℕ
-edgePulse gate is-greater ticks x t = cond (rowBit ticks x) (pulseAt (peakOf gate is-greater) (gate .rise) (gate .fall) (gate .delay) x t) 0
+-- The greater pulse at tick t that tick x allows, by the rows of the edge with the greater peak and of the other one.
+unfoldable pub pulseByRows : Gate → List ℕ → List ℕ → ℕ → ℕ → ℕ
+pulseByRows gate greater lower x t =
+    max (edgePulse gate (peakOf gate true) (rowBit greater x) x t) (edgePulse gate (peakOf gate false) (rowBit lower x) x t)
 
--- The greater of the hl and lh pulses at tick t that the set of tick x allows. The rows are those of the edge with the greater peak and of
--- the other one.
-unfoldable pub allowedPulse : Gate → List ℕ → List ℕ → ℕ → ℕ → ℕ
-allowedPulse gate greater lower x t = max (edgePulse gate true greater x t) (edgePulse gate false lower x t)
-
--- A row once the sets of the ticks before tick `passed` are passed: its words are, tick by tick, the greatest hl or lh pulse that these
--- sets allow.
-pub record Passed (gate : Gate) (greater lower : List ℕ) (passed : ℕ) (row : List ℕ) : Type 0 where
-  pub long : length row ≡ 512
-  pub at : (t : ℕ) → getD row t 0 ≡ maxBelow passed (λ x. allowedPulse gate greater lower x t)
+-- Words of changes once the ticks from tick `from` to before tick `to` are passed: the pulses that they allow are added.
+abbrev pub Passed : Gate → List ℕ → List ℕ → ℕ → ℕ → List ℕ → List ℕ → Type 0
+Passed gate greater lower from to = Added (gate .contact) (λ t. sumBetween from to (λ x. pulseByRows gate greater lower x t))
 
 -- A row of bits that has no tick.
 abbrev pub NoTick : List ℕ → Type 0
@@ -97,9 +86,9 @@ pub record NextRun (greater lower : List ℕ) (from : ℕ) (run : Run) : Type 0 
 
 -- Where the shape of a peak's pulse stands among the shapes; and the shapes, each made where a tick has its peak.
 unfoldable pub placeOf : Bool → ℕ
-placeOf is-greater = cond is-greater 0 256
+placeOf is-greater = cond is-greater 0 264
 
 pub record ShapesMade (gate : Gate) (greater lower shapes : List ℕ) : Type 0 where
-  pub long : length shapes ≡ 512
+  pub long : length shapes ≡ 528
   pub made : (is-greater : Bool) (x : ℕ) → x < 256 → rowBit (cond is-greater greater lower) x ≡ true
       → Shaped (peakOf gate is-greater) (gate .rise) (gate .fall) (placeOf is-greater) shapes

@@ -1,6 +1,7 @@
 pub mod Rounding
 pub mod Pulse
 pub mod Current
+pub mod Sums
 pub mod Drawing
 pub mod Levels
 pub mod Runs

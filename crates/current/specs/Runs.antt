@@ -1,16 +1,13 @@
--- The pulses of a run of ticks, as the code draws them into a row.
-use Prim.Native.Nat.{ℕ, _+_, _-_, _≤_, _<_, max}
-use mathlib.Core.Bool.{Bool, true, false, cond}
+-- The pulses of a run of ticks, as the code adds them to the changes of a sheet in the making.
+use Prim.Native.Nat.{ℕ, _+_, _≤_, _<_}
+use mathlib.Core.Bool.{Bool, true, false}
 use mathlib.Core.List.{List}
 use mathlib.Core.Path.{_≡_}
-use lib.Dec.{leb, ltb}
 use lib.ListN.{length, getD}
+use Rattle.laws.specs.Below.{sumBetween}
 use Rattle.laws.specs.Rewritten.{Rewritten}
-use Rattle.current.specs.Pulse.{pulse}
-
--- A row raised to levels from tick `from` on: its word k ticks later.
-unfoldable pub raisedTo : List ℕ → ℕ → (ℕ → ℕ) → ℕ → ℕ
-raisedTo row from level k = max (getD row (from + k) 0) (level k)
+use Rattle.sheet.specs.Changes.{wrappedSum, wrappedDifference, Added}
+use Rattle.current.specs.Pulse.{pulse, pulseAt}
 
 -- Shapes once the rise of a pulse is made, up to before the peak, and once its fall is, from the peak on. The pulse stands there from a
 -- place on.
@@ -28,24 +25,26 @@ pub record ShapeMade (needed : Bool) (P r f place : ℕ) (shapes after : List �
 
 -- The shape of a pulse among the shapes: its level after each number of ticks.
 pub record Shaped (P r f place : ℕ) (shapes : List ℕ) : Type 0 where
-  pub long : length shapes ≡ 512
-  pub low : place ≤ 256
-  pub at : (k : ℕ) → k < 256 → getD shapes (place + k) 0 ≡ pulse P r f k
+  pub long : length shapes ≡ 528
+  pub low : place ≤ 264
+  pub at : (k : ℕ) → k < 264 → getD shapes (place + k) 0 ≡ pulse P r f k
 
--- A row raised from tick `at` on to n levels of the shapes from a place on.
-abbrev pub Stamped : List ℕ → ℕ → ℕ → ℕ → List ℕ → List ℕ → Type 0
-Stamped shapes place at n row = Rewritten (raisedTo row at (λ k. getD shapes (place + k) 0)) at n row
+-- The level of the shapes k ticks from a place on, and its change from the tick before to the next.
 
--- A row once a height is drawn from tick `from` to before tick `to`.
-abbrev pub HeightDrawn : ℕ → ℕ → ℕ → List ℕ → List ℕ → Type 0
-HeightDrawn height from to row = Rewritten (raisedTo row from (λ k. height)) from (to - from) row
+abbrev pub levelIn : List ℕ → ℕ → ℕ → ℕ
+levelIn shapes place k = getD shapes (place + k) 0
 
--- The greatest at tick t of the pulses that start at ticks `first` to `last`: the first one's rise, the peak, the last one's fall.
-unfoldable pub runPulse : ℕ → ℕ → ℕ → ℕ → ℕ → ℕ → ℕ
-runPulse P r f first last t =
-    cond (ltb t first) 0 (cond (ltb t (first + r)) (pulse P r f (t - first)) (cond (leb t (last + r)) P (pulse P r f (t - last))))
+abbrev pub changeIn : List ℕ → ℕ → ℕ → ℕ
+changeIn shapes place k = wrappedDifference (levelIn shapes place (k + 1)) (levelIn shapes place k)
 
--- A row once the pulses of a run are drawn.
-pub record RunDrawn (P r f first last : ℕ) (row after : List ℕ) : Type 0 where
-  pub long : length after ≡ length row
-  pub at : (t : ℕ) → getD after t 0 ≡ max (getD row t 0) (runPulse P r f first last t)
+-- Words from a place on to which n numbers are added, or from which they are taken away, modulo 2 ^ 64.
+
+abbrev pub SumsMade : (ℕ → ℕ) → ℕ → ℕ → List ℕ → List ℕ → Type 0
+SumsMade number at n words = Rewritten (λ k. wrappedSum (getD words (at + k) 0) (number k)) at n words
+
+abbrev pub DifferencesMade : (ℕ → ℕ) → ℕ → ℕ → List ℕ → List ℕ → Type 0
+DifferencesMade number at n words = Rewritten (λ k. wrappedDifference (getD words (at + k) 0) (number k)) at n words
+
+-- Words of changes once the pulses of a run are added: those that start at ticks `first` to before `end`.
+abbrev pub RunDrawn : ℕ → ℕ → ℕ → ℕ → ℕ → ℕ → List ℕ → List ℕ → Type 0
+RunDrawn P r f contact first end = Added contact (λ t. sumBetween first end (λ x. pulseAt P r f 0 x t))

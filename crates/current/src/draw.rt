@@ -1,105 +1,108 @@
-// Pulses drawn into a row: each tick of the row is raised to the pulse, where it is lower. The pulses of one peak have one shape, made
-// once and drawn as often as the peak is reached, eight ticks at a time. The shapes of a gate stand in one buffer, each from a place on.
+// Pulses drawn into a sheet in the making, whose words are changes from tick to tick. To add one pulse to the currents is to add its changes
+// to the words. To add the pulses of a run of ticks is to add the pulse itself from the run's first tick on, and to take it away from the
+// tick after the last on, since from one tick to the next one pulse begins and all others go on. Eight words at a time.
 ghost use mathlib.Core.Path.{_≡_};
 ghost use Prim.Native.Nat.{_+_, _*_, _≤_, _<_};
 ghost use lib.ListN.{length};
-ghost use Rattle.current.specs.Levels.{InRange, Factored};
-ghost use Rattle.current.specs.Runs.{RiseMade, FallMade, ShapeMade, Shaped, Stamped, HeightDrawn, RunDrawn};
-use super::level::Factors;
+ghost use Rattle.current.specs.Levels.{InRange};
+ghost use Rattle.current.specs.Runs.{Shaped, levelIn, changeIn, SumsMade, DifferencesMade, RunDrawn};
 use super::level::Pulse;
-use super::level::level;
 use sheet::Word;
 
-// The rise of a pulse, up to before the peak, among the shapes from a place on.
-fn make_rise(shapes: &mut [Word], place: usize, pulse: Pulse, factors: Factors)
-    requires { ⌜ (length (now shapes) ≡ 512) × (place ≤ 256) × Factored (pulse .peak) (pulse .rise) (pulse .fall) (factors .rising) (factors .falling) ⌝ }
-    ensures { λ _. ⌜ RiseMade (pulse .peak) (pulse .rise) (pulse .fall) place (now (shapes .entry)) (now (shapes .exit)) ⌝ }
-{
-    let mut k: usize = 0;
-    while k < pulse.rise {
-        shapes[place + k] = level(pulse.peak, factors.rising, k);
-        k += 1;
-    }
-}
-
-// The fall of a pulse, from the peak on.
-fn make_fall(shapes: &mut [Word], place: usize, pulse: Pulse, factors: Factors)
-    requires { ⌜ (length (now shapes) ≡ 512) × (place ≤ 256) × Factored (pulse .peak) (pulse .rise) (pulse .fall) (factors .rising) (factors .falling) ⌝ }
-    ensures { λ _. ⌜ FallMade (pulse .peak) (pulse .rise) (pulse .fall) place (now (shapes .entry)) (now (shapes .exit)) ⌝ }
-{
-    let end = pulse.rise + pulse.fall;
-    let mut k = pulse.rise;
-    while k < end {
-        shapes[place + k] = level(pulse.peak, factors.falling, end - k);
-        k += 1;
-    }
-}
-
-// The shape of a pulse, where it is needed: its level after each number of ticks.
-pub fn make_shape(needed: bool, shapes: &mut [Word], place: usize, pulse: Pulse, factors: Factors)
-    requires { ⌜ (length (now shapes) ≡ 512) × (place ≤ 256) × Factored (pulse .peak) (pulse .rise) (pulse .fall) (factors .rising) (factors .falling) ⌝ }
-    ensures { λ _. ⌜ ShapeMade needed (pulse .peak) (pulse .rise) (pulse .fall) place (now (shapes .entry)) (now (shapes .exit)) ⌝ }
-{
-    if !needed {
-        return;
-    }
-    make_rise(shapes, place, pulse, factors);
-    make_fall(shapes, place, pulse, factors);
-}
-
-// Raises eight ticks of a row from tick `at` on to eight levels of the shapes from a place on.
-fn stamp_eight(row: &mut [Word], at: usize, shapes: &[Word], place: usize)
-    requires { ⌜ (at + 8 ≤ length (now row)) × (place + 8 ≤ length (now shapes)) ⌝ }
-    ensures { λ _. ⌜ Stamped (now (shapes .entry)) place at 8 (now (row .entry)) (now (row .exit)) ⌝ }
+// Eight levels of the shapes from a place on added to eight words from place `at` on.
+fn add_eight_levels(words: &mut [Word], at: usize, shapes: &[u32], place: usize)
+    requires { ⌜ (at + 8 ≤ length (now words)) × (place + 8 ≤ length (now shapes)) ⌝ }
+    ensures { λ _. ⌜ SumsMade (levelIn (now (shapes .entry)) place) at 8 (now (words .entry)) (now (words .exit)) ⌝ }
 {
     let mut k: usize = 0;
     while k < 8 {
-        row[at + k] = numbers::max_u32(row[at + k], shapes[place + k]);
+        let level = numbers::u64_from_u32(shapes[place + k]);
+        words[at + k] = std::num::wrapping_add_u64(words[at + k], level);
         k += 1;
     }
 }
 
-// Raises a row from tick `at` on to the first 8 × eights levels of a shape.
-fn stamp(row: &mut [Word], at: usize, shapes: &[Word], place: usize, eights: usize)
-    requires { ⌜ (length (now row) ≡ 512) × (length (now shapes) ≡ 512) × (at < 256) × (place ≤ 256) × (eights ≤ 32) ⌝ }
-    ensures { λ _. ⌜ Stamped (now (shapes .entry)) place at (8 * eights) (now (row .entry)) (now (row .exit)) ⌝ }
+fn add_levels(words: &mut [Word], at: usize, shapes: &[u32], place: usize, eights: usize)
+    requires { ⌜ (at + 8 * eights ≤ length (now words)) × (length (now words) ≡ 8192) × (place + 8 * eights ≤ length (now shapes)) × (length (now shapes) ≡ 528) ⌝ }
+    ensures { λ _. ⌜ SumsMade (levelIn (now (shapes .entry)) place) at (8 * eights) (now (words .entry)) (now (words .exit)) ⌝ }
 {
     let mut n: usize = 0;
     while n < eights {
-        stamp_eight(row, at + 8 * n, shapes, place + 8 * n);
+        add_eight_levels(words, at + 8 * n, shapes, place + 8 * n);
         n += 1;
     }
 }
 
-// A height from tick `from` to before tick `to`.
-fn draw_level(row: &mut [Word], from: usize, to: usize, height: u32)
-    requires { ⌜ (length (now row) ≡ 512) × (from ≤ to) × (to ≤ 512) ⌝ }
-    ensures { λ _. ⌜ HeightDrawn height from to (now (row .entry)) (now (row .exit)) ⌝ }
+// The same taken away.
+fn take_eight_levels(words: &mut [Word], at: usize, shapes: &[u32], place: usize)
+    requires { ⌜ (at + 8 ≤ length (now words)) × (place + 8 ≤ length (now shapes)) ⌝ }
+    ensures { λ _. ⌜ DifferencesMade (levelIn (now (shapes .entry)) place) at 8 (now (words .entry)) (now (words .exit)) ⌝ }
 {
-    let mut t = from;
-    while t < to {
-        row[t] = numbers::max_u32(row[t], height);
-        t += 1;
+    let mut k: usize = 0;
+    while k < 8 {
+        let level = numbers::u64_from_u32(shapes[place + k]);
+        words[at + k] = std::num::wrapping_sub_u64(words[at + k], level);
+        k += 1;
     }
 }
 
-// The pulses that start at ticks `first` to `last`: that of the first tick, that of the last, and between their peaks the peak.
+fn take_levels(words: &mut [Word], at: usize, shapes: &[u32], place: usize, eights: usize)
+    requires { ⌜ (at + 8 * eights ≤ length (now words)) × (length (now words) ≡ 8192) × (place + 8 * eights ≤ length (now shapes)) × (length (now shapes) ≡ 528) ⌝ }
+    ensures { λ _. ⌜ DifferencesMade (levelIn (now (shapes .entry)) place) at (8 * eights) (now (words .entry)) (now (words .exit)) ⌝ }
+{
+    let mut n: usize = 0;
+    while n < eights {
+        take_eight_levels(words, at + 8 * n, shapes, place + 8 * n);
+        n += 1;
+    }
+}
+
+// Eight changes of the levels from a place on, each to the level that follows, added to eight words from place `at` on.
+fn add_eight_changes(words: &mut [Word], at: usize, shapes: &[u32], place: usize)
+    requires { ⌜ (at + 8 ≤ length (now words)) × (place + 9 ≤ length (now shapes)) ⌝ }
+    ensures { λ _. ⌜ SumsMade (changeIn (now (shapes .entry)) place) at 8 (now (words .entry)) (now (words .exit)) ⌝ }
+{
+    let mut k: usize = 0;
+    while k < 8 {
+        let level = numbers::u64_from_u32(shapes[place + k]);
+        let next = numbers::u64_from_u32(shapes[place + k + 1]);
+        let change = std::num::wrapping_sub_u64(next, level);
+        words[at + k] = std::num::wrapping_add_u64(words[at + k], change);
+        k += 1;
+    }
+}
+
+fn add_changes(words: &mut [Word], at: usize, shapes: &[u32], place: usize, eights: usize)
+    requires { ⌜ (at + 8 * eights ≤ length (now words)) × (length (now words) ≡ 8192) × (place + 8 * eights + 1 ≤ length (now shapes)) × (length (now shapes) ≡ 528) ⌝ }
+    ensures { λ _. ⌜ SumsMade (changeIn (now (shapes .entry)) place) at (8 * eights) (now (words .entry)) (now (words .exit)) ⌝ }
+{
+    let mut n: usize = 0;
+    while n < eights {
+        add_eight_changes(words, at + 8 * n, shapes, place + 8 * n);
+        n += 1;
+    }
+}
+
+// The pulses that start at ticks `first` to before `end`, at a contact. A pulse is 0 at its start, so that its first change is at the tick
+// after it.
 pub fn draw_run(
-    row: &mut [Word],
+    words: &mut [Word],
+    contact: usize,
     pulse: Pulse,
-    shapes: &[Word],
+    shapes: &[u32],
     place: usize,
     first: usize,
-    last: usize,
+    end: usize,
 )
-    requires { ⌜ (length (now row) ≡ 512) × InRange (pulse .peak) (pulse .rise) (pulse .fall) × Shaped (pulse .peak) (pulse .rise) (pulse .fall) place (now shapes) × (first ≤ last) × (last < 256) ⌝ }
-    ensures { λ _. ⌜ RunDrawn (pulse .peak) (pulse .rise) (pulse .fall) first last (now (row .entry)) (now (row .exit)) ⌝ }
+    requires { ⌜ (length (now words) ≡ 8192) × (contact < 16) × InRange (pulse .peak) (pulse .rise) (pulse .fall) × Shaped (pulse .peak) (pulse .rise) (pulse .fall) place (now shapes) × (first < end) × (end ≤ 256) ⌝ }
+    ensures { λ _. ⌜ RunDrawn (pulse .peak) (pulse .rise) (pulse .fall) contact first end (now (words .entry)) (now (words .exit)) ⌝ }
 {
     let eights = (pulse.rise + pulse.fall + 7) / 8;
-    stamp(row, first, shapes, place, eights);
-    if first == last {
+    let row = 512 * contact;
+    if end == first + 1 {
+        add_changes(words, row + end, shapes, place, eights);
         return;
     }
-    stamp(row, last, shapes, place, eights);
-    draw_level(row, first + pulse.rise, last + pulse.rise + 1, pulse.peak);
+    add_levels(words, row + first, shapes, place, eights);
+    take_levels(words, row + end, shapes, place, eights);
 }

@@ -4,5 +4,6 @@ mod edge;
 mod gate;
 mod level;
 mod pass;
+mod shape;
 
 pub use gate::draw_gate;

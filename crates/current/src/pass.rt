@@ -9,6 +9,7 @@ use super::edge;
 use super::level;
 use super::level::Factors;
 use super::level::Pulse;
+use super::shape;
 use block::Gate;
 use sheet::Word;
 
@@ -28,26 +29,26 @@ fn pulse_of(gate: Gate, greater: bool) -> Pulse
 fn place_of(greater: bool) -> usize
     ensures { λ r. ⌜ r ≡ placeOf greater ⌝ }
 {
-    if greater { 0 } else { 256 }
+    if greater { 0 } else { 264 }
 }
 
 // The shapes of both pulses, made from zeros where a tick has their peak.
-fn make_shapes(gate: Gate, greater: &[u64], lower: &[u64], shapes: &mut [Word])
-    requires { ⌜ PulseFields gate × (length (now greater) ≡ 4) × (length (now lower) ≡ 4) × (now shapes ≡ replicate 512 0) ⌝ }
+fn make_shapes(gate: Gate, greater: &[u64], lower: &[u64], shapes: &mut [u32])
+    requires { ⌜ PulseFields gate × (length (now greater) ≡ 4) × (length (now lower) ≡ 4) × (now shapes ≡ replicate 528 0) ⌝ }
     ensures { λ _. ⌜ ShapesMade gate (now (greater .entry)) (now (lower .entry)) (now (shapes .exit)) ⌝ }
 {
     let factors = Factors {
         rising: level::factor(gate.rise),
         falling: level::factor(gate.fall),
     };
-    draw::make_shape(
+    shape::make_shape(
         edge::has_tick(greater),
         shapes,
         place_of(true),
         pulse_of(gate, true),
         factors,
     );
-    draw::make_shape(
+    shape::make_shape(
         edge::has_tick(lower),
         shapes,
         place_of(false),
@@ -59,46 +60,47 @@ fn make_shapes(gate: Gate, greater: &[u64], lower: &[u64], shapes: &mut [Word])
 // One step of the pass: the next run is drawn. The answer is the tick up to which the sets are passed then. The rows are the ticks by
 // their peak.
 fn pass_run(
-    row: &mut [Word],
+    sheet: &mut [Word],
     gate: Gate,
     greater: &[u64],
     lower: &[u64],
     all: &[u64],
-    shapes: &[Word],
+    shapes: &[u32],
     passed: usize,
 ) -> usize
-    requires { ⌜ PulseFields gate × TicksByPeak (now greater) (now lower) (now all) × ShapesMade gate (now greater) (now lower) (now shapes) × (gate .delay ≤ passed) × (passed < 256) × Passed gate (now greater) (now lower) passed (now row) ⌝ }
-    ensures { λ r. ⌜ (passed < r) × (r ≤ 256) × Passed gate (now (greater .entry)) (now (lower .entry)) r (now (row .exit)) ⌝ }
+    requires { ⌜ (length (now sheet) ≡ 8192) × PulseFields gate × TicksByPeak (now greater) (now lower) (now all) × ShapesMade gate (now greater) (now lower) (now shapes) × (gate .delay ≤ passed) × (passed < 256) ⌝ }
+    ensures { λ r. ⌜ (passed < r) × (r ≤ 256) × Passed gate (now (greater .entry)) (now (lower .entry)) passed r (now (sheet .entry)) (now (sheet .exit)) ⌝ }
 {
     let run = edge::next_run(greater, lower, all, passed);
     if run.first == 256 {
         return 256;
     }
     let first = run.first - gate.delay;
-    let last = run.end - 1 - gate.delay;
+    let end = run.end - gate.delay;
     draw::draw_run(
-        row,
+        sheet,
+        gate.contact,
         pulse_of(gate, run.greater),
         shapes,
         place_of(run.greater),
         first,
-        last,
+        end,
     );
     run.end
 }
 
-// The pass over all ticks, from a row of zeros: it begins at the gate's delay, before which no tick allows an edge. The edge with the
-// lower peak counts where it is alone.
-pub fn pass_ticks(row: &mut [Word], gate: Gate, greater: &[u64], lower: &[u64])
-    requires { ⌜ GateEdges gate (now greater) (now lower) × (now row ≡ replicate 512 0) ⌝ }
-    ensures { λ _. ⌜ Passed gate (now (greater .entry)) (now (lower .entry)) 256 (now (row .exit)) ⌝ }
+// The pass over all ticks: it begins at the gate's delay, before which no tick allows an edge. The edge with the lower peak counts where it
+// is alone.
+pub fn pass_ticks(sheet: &mut [Word], gate: Gate, greater: &[u64], lower: &[u64])
+    requires { ⌜ (length (now sheet) ≡ 8192) × GateEdges gate (now greater) (now lower) ⌝ }
+    ensures { λ _. ⌜ Passed gate (now (greater .entry)) (now (lower .entry)) 0 256 (now (sheet .entry)) (now (sheet .exit)) ⌝ }
 {
     let alone = edge::without(lower, greater);
     let all = edge::either(greater, &alone);
-    let mut shapes: [Word; 512] = [0; 512];
+    let mut shapes: [u32; 528] = [0; 528];
     make_shapes(gate, greater, &alone, &mut shapes);
     let mut passed = gate.delay;
     while passed < 256 {
-        passed = pass_run(row, gate, greater, &alone, &all, &shapes, passed);
+        passed = pass_run(sheet, gate, greater, &alone, &all, &shapes, passed);
     }
 }

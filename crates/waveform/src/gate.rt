@@ -9,7 +9,7 @@ ghost use Rattle.block.specs.Kind.{kindOf, ruleOf};
 ghost use Rattle.parts.specs.Parts.{numberOf, setAt};
 ghost use Rattle.rows.specs.Rows.{HasRow, setIn, RowMade};
 ghost use Rattle.waveform.specs.Pins.{madeBefore, madeAt, PartIs, rawAt, heldFrom, RowReady};
-ghost use Rattle.waveform.specs.Rows.{HasPinRows, latestIn, pinsLastIn, lastIn, LastChange, Ready, GateMade};
+ghost use Rattle.waveform.specs.Rows.{HasPinRows, latestIn, pinsLastIn, LastChange, Ready, GateMade};
 use super::joining;
 use super::row;
 use block::Gate;
@@ -124,11 +124,11 @@ fn last_change(work: &[u8], net: usize, end: Part, bound: usize, arrival: usize)
     0
 }
 
-// Makes the waveform of a gate, and returns the tick after which its sets are the same. Its pins are the same after tick `last`: no
+// Makes the waveform of a gate. Its pins are the same after tick `last`: no
 // part of their rows is joined that lies after the tick which follows.
-pub fn gate_waveform(net: Net, gate: Gate, joins: &[u8], hops: usize, work: &mut [u8]) -> usize
+pub fn gate_waveform(net: Net, gate: Gate, joins: &[u8], hops: usize, work: &mut [u8])
     requires { ⌜ Ready (net .0) gate (now work) × (1 ≤ hops) × (now joins ≡ joinTable) ⌝ }
-    ensures { λ r. ⌜ GateMade (net .0) gate hops (now (work .entry)) (now (work .exit)) × (r ≡ lastIn (now (work .exit)) (net .0)) ⌝ }
+    ensures { λ _. ⌜ GateMade (net .0) gate hops (now (work .entry)) (now (work .exit)) ⌝ }
 {
     let latest = latest_pin(gate, work);
     let arrival = latest.arrival + gate.delay;
@@ -149,5 +149,4 @@ pub fn gate_waveform(net: Net, gate: Gate, joins: &[u8], hops: usize, work: &mut
     fill::fill(work, net.0, hops, bound);
     let last = last_change(work, net.0, settled, bound, arrival);
     row::write_ends(work, net, before, arrival as u8, last as u8);
-    last
 }

@@ -2,7 +2,7 @@
 -- Assumes nothing.
 use native.Mathlib.Omega.{arith}
 use borrow.Author.Needs.{needs}
-use Rattle.current.proofs.Rows.{run-of-one, run-drawn}
+use Rattle.current.proofs.Runs.{pulse-drawn, run-drawn}
 use Rattle.current.proofs.draw.draw_run.Statement.{statement}
 use Rattle.current.proofs.draw.draw_run.Tie as tie
 
@@ -12,43 +12,49 @@ add-eights c = search needs
 add-eights-2 : tie.Need-add-eights-2
 add-eights-2 c = search needs
 
-stamp-requires : tie.Need-stamp-requires
-stamp-requires c κs = search needs
+mul-row : tie.Need-mul-row
+mul-row c = search needs
+
+add-if1 : tie.Need-add-if1
+add-if1 c = search needs
+
+add-add-changes : tie.Need-add-add-changes
+add-add-changes c = search needs
+
+add-changes-requires : tie.Need-add-changes-requires
+add-changes-requires c κs = search needs
 
 same-length : tie.Need-same-length
 same-length c = search needs
 
 returns : tie.Need-returns
 returns c =
-    let first = c .before .before .before in
-    let start = first .before .before .before .before .before in
-    run-of-one (start .pre .1) (start .pre .2) (omega arith) (omega arith) (omega arith) (first .stamp .ensures)
+    let start = c .before .before .before .before .before .before .before .before in
+    let range = start .pre .2 in
+    pulse-drawn range (start .pre .1) (start .pre .3) (start .pre .4) (start .pre .5) (omega arith) (omega (arith, range .rise-high, range .fall-high)) (omega arith)
+    (c .before .before .add-changes .ensures)
 
-stamp-requires-2 : tie.Need-stamp-requires-2
-stamp-requires-2 c κs = search needs
+add-add-levels : tie.Need-add-add-levels
+add-add-levels c = search needs
 
-add-draw-level : tie.Need-add-draw-level
-add-draw-level c = search needs
+add-levels-requires : tie.Need-add-levels-requires
+add-levels-requires c κs = search needs
 
-add-draw-level-2 : tie.Need-add-draw-level-2
-add-draw-level-2 c = search needs
+add-take-levels : tie.Need-add-take-levels
+add-take-levels c = search needs
 
-add-draw-level-3 : tie.Need-add-draw-level-3
-add-draw-level-3 c = search needs
-
-draw-level-requires : tie.Need-draw-level-requires
-draw-level-requires c κs = search needs
+take-levels-requires : tie.Need-take-levels-requires
+take-levels-requires c κs = search needs
 
 same-length-2 : tie.Need-same-length-2
 same-length-2 c = search needs
 
 returns-2 : tie.Need-returns-2
 returns-2 c =
-    let second = c .before .before .before .before .before .before .before .before in
-    let first = second .before .before .before .before .before in
-    let start = first .before .before .before .before .before in
-    run-drawn (start .pre .1) (start .pre .2) (omega arith) (omega arith) (start .pre .3) (first .stamp .ensures) (second .stamp2 .ensures)
-    (c .before .before .draw-level .ensures)
+    let start = c .before .before .before .before .before .before .before .before .before .before .before .before in
+    let range = start .pre .2 in
+    run-drawn range (start .pre .1) (start .pre .3) (start .pre .4) (start .pre .5) (omega arith) (omega (arith, range .rise-high, range .fall-high))
+    (c .before .before .before .before .before .before .add-levels .ensures) (c .before .before .take-levels .ensures)
 
 pub draw-run-spec : {M : Type 1} → statement M
 draw-run-spec =
@@ -56,13 +62,15 @@ draw-run-spec =
     (tie.spec
     add-eights
     add-eights-2
-    stamp-requires
+    mul-row
+    add-if1
+    add-add-changes
+    add-changes-requires
     same-length
     returns
-    stamp-requires-2
-    add-draw-level
-    add-draw-level-2
-    add-draw-level-3
-    draw-level-requires
+    add-add-levels
+    add-levels-requires
+    add-take-levels
+    take-levels-requires
     same-length-2
     returns-2)

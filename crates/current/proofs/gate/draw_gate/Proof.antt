@@ -4,7 +4,7 @@ use mathlib.Core.Path.{refl}
 use native.Mathlib.Omega.{arith}
 use borrow.Author.Needs.{needs}
 use borrow.Author.Tests.{not-true}
-use Rattle.current.proofs.Gates.{gate-edges, nothing-drawn, row-small, gate-drawn}
+use Rattle.current.proofs.Gates.{gate-edges, nothing-drawn, gate-drawn}
 use Rattle.current.proofs.gate.draw_gate.Statement.{statement}
 use Rattle.current.proofs.gate.draw_gate.Tie as tie
 
@@ -45,49 +45,20 @@ slice-aggregate-pass-ticks c = search needs
 slice-aggregate-pass-ticks-2 : tie.Need-slice-aggregate-pass-ticks-2
 slice-aggregate-pass-ticks-2 c = search needs
 
-slice-aggregate-pass-ticks-3 : tie.Need-slice-aggregate-pass-ticks-3
-slice-aggregate-pass-ticks-3 c = search needs
-
 pass-ticks-requires : tie.Need-pass-ticks-requires
 pass-ticks-requires c κs =
     let one = rw (c .before .before .before .before .before .before .before .before .before .edge-of .ensures) at (c .before .before .before .before .before .before .before .before .read-row .ensures) in
     let other = rw (c .before .before .before .before .before .before .before .edge-of2 .ensures) at (c .before .before .before .before .before .before .read-row2 .ensures) in
-    (gate-edges (c .before .before .before .before .before .before .before .before .before .before .before .before .pre) one other, refl)
-
-quiet-from-requires : tie.Need-quiet-from-requires
-quiet-from-requires c κs = search needs
-
-mul-add-row : tie.Need-mul-add-row
-mul-add-row c = let high = c .before .before .before .before .before .before .before .before .before .before .before .before .before .before .before .before .before .pre .ranges .contact-high in omega arith
-
-slice-aggregate-add-row : tie.Need-slice-aggregate-add-row
-slice-aggregate-add-row c = search needs
-
-add-row-requires : tie.Need-add-row-requires
-add-row-requires c κs =
-    let one = rw (c .before .before .before .before .before .before .before .before .before .before .before .before .before .before .before .edge-of .ensures) at (c .before .before .before .before .before .before .before .before .before .before .before .before .before .before .read-row .ensures) in
-    let other = rw (c .before .before .before .before .before .before .before .before .before .before .before .before .before .edge-of2 .ensures) at (c .before .before .before .before .before .before .before .before .before .before .before .before .read-row2 .ensures) in
-    let given = c .before .before .before .before .before .before .before .before .before .before .before .before .before .before .before .before .before .before .pre in
-    let passed = c .before .before .before .before .before .pass-ticks .ensures in
-    let quiet = c .before .before .before .quiet-from .ensures in
-    record {
-      long = given .long;
-      row-long = passed .long;
-      short = quiet .0;
-      place = omega (arith, given .ranges .contact-high, quiet .0);
-      small = row-small given one other passed;
-      room = given .room;
-    }
+    (c .before .before .before .before .before .before .before .before .before .before .before .before .pre .long, gate-edges (c .before .before .before .before .before .before .before .before .before .before .before .before .pre) one other)
 
 same-length : tie.Need-same-length
 same-length c = search needs
 
 returns-2 : tie.Need-returns-2
 returns-2 c =
-    let one = rw (c .before .before .before .before .before .before .before .before .before .before .before .before .before .before .before .before .before .before .edge-of .ensures) at (c .before .before .before .before .before .before .before .before .before .before .before .before .before .before .before .before .before .read-row .ensures) in
-    let other = rw (c .before .before .before .before .before .before .before .before .before .before .before .before .before .before .before .before .edge-of2 .ensures) at (c .before .before .before .before .before .before .before .before .before .before .before .before .before .before .before .read-row2 .ensures) in
-    let quiet = c .before .before .before .before .before .before .quiet-from .ensures in
-    gate-drawn (c .before .before .before .before .before .before .before .before .before .before .before .before .before .before .before .before .before .before .before .before .before .pre) one other (c .before .before .before .before .before .before .before .before .pass-ticks .ensures) (quiet .0) (quiet .1) (c .before .before .add-row .ensures)
+    let one = rw (c .before .before .before .before .before .before .before .before .before .before .before .before .edge-of .ensures) at (c .before .before .before .before .before .before .before .before .before .before .before .read-row .ensures) in
+    let other = rw (c .before .before .before .before .before .before .before .before .before .before .edge-of2 .ensures) at (c .before .before .before .before .before .before .before .before .before .read-row2 .ensures) in
+    gate-drawn (c .before .before .before .before .before .before .before .before .before .before .before .before .before .before .before .pre) one other (c .before .before .pass-ticks .ensures)
 
 pub draw-gate-spec : {M : Type 1} → statement M
 draw-gate-spec =
@@ -104,11 +75,6 @@ draw-gate-spec =
     returns
     slice-aggregate-pass-ticks
     slice-aggregate-pass-ticks-2
-    slice-aggregate-pass-ticks-3
     pass-ticks-requires
-    quiet-from-requires
-    mul-add-row
-    slice-aggregate-add-row
-    add-row-requires
     same-length
     returns-2)

@@ -107,11 +107,9 @@ returns c =
     let pins = made .before .before .before .before .before .before .before .before .before .before .before in
     let s = pins .before .before .before .before in
     let arrival = ap (λ x. x + s .args .gate .delay) (pins .latest-pin .ensures .0) in
-    let ends = c .before .before .write-ends .ensures in (
-      gate-made (s .args .hops) (s .args .net .0) (s .args .gate) (s .args .work .now) (s .pre .0) _ _ _ _ _ _ _
-          (made .before .before .before .before .before .gate-before .ensures) (made .make-row .ensures .0) (full .fill .ensures) arrival (change .last-change .ensures) ends,
-      sym (ends .settles),
-    )
+    gate-made (s .args .hops) (s .args .net .0) (s .args .gate) (s .args .work .now) (s .pre .0) _ _ _ _ _ _ _
+    (made .before .before .before .before .before .gate-before .ensures) (made .make-row .ensures .0) (full .fill .ensures) arrival (change .last-change .ensures)
+    (c .before .before .write-ends .ensures)
 
 pub gate-waveform-spec : {M : Type 1} → statement M
 gate-waveform-spec =

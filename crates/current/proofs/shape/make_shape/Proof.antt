@@ -1,12 +1,12 @@
--- `current::draw::make_shape` meets its contract.
+-- `current::shape::make_shape` meets its contract.
 -- Assumes nothing.
 use mathlib.Core.Bool.{false≢true}
 use mathlib.Core.Path.{refl, sym, _∙_}
 use borrow.Author.Needs.{needs}
 use borrow.Author.Tests.{not-true, not-false}
-use Rattle.current.proofs.Rows.{shape-made}
-use Rattle.current.proofs.draw.make_shape.Statement.{statement}
-use Rattle.current.proofs.draw.make_shape.Tie as tie
+use Rattle.current.proofs.Runs.{shape-made}
+use Rattle.current.proofs.shape.make_shape.Statement.{statement}
+use Rattle.current.proofs.shape.make_shape.Tie as tie
 
 returns : tie.Need-returns
 returns c = record { long = refl; made = λ e. absurd (false≢true (sym (not-true _ (c .if1 .taken)) ∙ e)); kept = λ e. refl }

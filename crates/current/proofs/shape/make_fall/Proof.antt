@@ -1,4 +1,4 @@
--- `current::draw::make_fall` meets its contract.
+-- `current::shape::make_fall` meets its contract.
 -- Assumes nothing.
 use Prim.Native.Nat.{_+_, _-_, _≤_}
 use mathlib.Core.Path.{_≡_, ap, _∙_}
@@ -8,8 +8,8 @@ use Rattle.laws.specs.Rewritten.{Rewritten}
 use Rattle.laws.proofs.Rewritten.{rewritten-none, rewritten-next, rewritten-to}
 use Rattle.current.specs.Pulse.{pulse}
 use Rattle.current.proofs.Pulses.{fall-level}
-use Rattle.current.proofs.draw.make_fall.Statement.{statement}
-use Rattle.current.proofs.draw.make_fall.Tie as tie
+use Rattle.current.proofs.shape.make_fall.Statement.{statement}
+use Rattle.current.proofs.shape.make_fall.Tie as tie
 
 abbrev Inv-loop : tie.InvT-loop
 Inv-loop shapes₀ place p factors end k₀ shapes k =

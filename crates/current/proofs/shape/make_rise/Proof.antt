@@ -1,4 +1,4 @@
--- `current::draw::make_rise` meets its contract.
+-- `current::shape::make_rise` meets its contract.
 -- Assumes nothing.
 use Prim.Native.Nat.{_-_, _≤_}
 use mathlib.Core.Path.{_≡_, refl}
@@ -8,8 +8,8 @@ use Rattle.laws.specs.Rewritten.{Rewritten}
 use Rattle.laws.proofs.Rewritten.{rewritten-none, rewritten-next}
 use Rattle.current.specs.Pulse.{pulse}
 use Rattle.current.proofs.Pulses.{rise-level}
-use Rattle.current.proofs.draw.make_rise.Statement.{statement}
-use Rattle.current.proofs.draw.make_rise.Tie as tie
+use Rattle.current.proofs.shape.make_rise.Statement.{statement}
+use Rattle.current.proofs.shape.make_rise.Tie as tie
 
 abbrev Inv-loop : tie.InvT-loop
 Inv-loop shapes₀ place p factors k₀ shapes k = (k ≤ p .rise) × Rewritten (pulse (p .peak) (p .rise) (p .fall)) place k shapes₀ shapes
