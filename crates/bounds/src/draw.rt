@@ -21,7 +21,7 @@ fn raise(sheet: &mut [Word], other: &[Word])
 {
     let mut i: usize = 0;
     while i < 8192 {
-        sheet[i] = numbers::max_u32(sheet[i], other[i]);
+        sheet[i] = numbers::max_u64(sheet[i], other[i]);
         i += 1;
     }
 }

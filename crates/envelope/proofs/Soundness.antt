@@ -18,9 +18,9 @@ use Rattle.block.specs.View.{gateOf}
 use Rattle.sheet.proofs.Drops.{drop-at-most}
 use Rattle.waveform.specs.Waveform.{Waveform, simulation, envelope, waveforms}
 use Rattle.waveform.proofs.Within.{Within, waveforms-within}
-use Rattle.current.specs.Current.{ticksWhere, gateCurrent, transitionsOf, sheetOf}
+use Rattle.current.specs.Current.{transitionsFrom, gateCurrent, transitionsOf, sheetOf}
 use Rattle.current.proofs.Contacts.{contact-at-most}
-use Rattle.current.proofs.Gates.{current-at-most}
+use Rattle.current.proofs.Currents.{current-at-most}
 use Rattle.evaluation.specs.Evaluation.{simulatedSheet, envelopeSheet}
 use Rattle.envelope.specs.Soundness.{Sound}
 
@@ -50,11 +50,11 @@ module _ (hops : ℕ) (file : File) {pattern : List Excitation} {sets : List Unc
       (Forall₂·imp (allowed-too hl) (h .ticks)) t
 
   gate-at-most : (net t : ℕ)
-      → gateCurrent (gateOf file net) (getD (map (transitionsOf simulation) simulated) net (record { rises = []; falls = [] })) t
-      ≤ gateCurrent (gateOf file net) (getD (map (transitionsOf (envelope hops)) enveloped) net (record { rises = []; falls = [] })) t
-  unfolding transitionsOf ticksWhere
+      → gateCurrent (gateOf file net) (getD (map (transitionsOf simulation) simulated) net []) t
+      ≤ gateCurrent (gateOf file net) (getD (map (transitionsOf (envelope hops)) enveloped) net []) t
+  unfolding transitionsOf transitionsFrom
   gate-at-most net t =
-      subst (λ ts. gateCurrent (gateOf file net) ts t ≤ gateCurrent (gateOf file net) (getD (map (transitionsOf (envelope hops)) enveloped) net (record { rises = []; falls = [] })) t)
+      subst (λ ts. gateCurrent (gateOf file net) ts t ≤ gateCurrent (gateOf file net) (getD (map (transitionsOf (envelope hops)) enveloped) net []) t)
       (sym (List·getD-map (transitionsOf simulation) simulated net (record { before = l; ticks = [] })))
       (subst (λ ts. gateCurrent (gateOf file net) (transitionsOf simulation (getD simulated net (record { before = l; ticks = [] }))) t ≤ gateCurrent (gateOf file net) ts t)
       (sym (List·getD-map (transitionsOf (envelope hops)) enveloped net (record { before = single l; ticks = [] })))

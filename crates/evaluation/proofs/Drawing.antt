@@ -1,18 +1,16 @@
 -- The gates drawn one after the other make the sheet of the definitions.
 -- Assumes nothing.
-use Prim.Native.Nat.{ℕ, _+_, _*_, _/_, _%_, _≤_, _<_}
+use Prim.Native.Nat.{ℕ, _+_, _*_, _≤_, _<_}
 use mathlib.Core.Bool.{true, false, cond}
 use mathlib.Core.List.{List, [], _∷_, _++_, map}
 use mathlib.Core.Path.{_≡_, refl, ap, sym, subst, _∙_}
 use native.Mathlib.Omega.{arith}
-use lib.Dec.{eqb, ltb}
-use lib.ListN.{length, getD, List·getD-map, List·getD-eq-default}
+use lib.Dec.{eqb}
+use lib.ListN.{length, getD, List·getD-map}
 use borrow.Author.Count.{below-more}
-use borrow.Author.Tests.{eqb-true, eqb-false, ltb-true, ltb-false}
-use borrow.Table.Steps.{cases}
 use Rattle.laws.specs.Below.{sumBelow}
 use Rattle.laws.specs.Turn.{inTurn, listBelow}
-use Rattle.laws.proofs.Below.{max-same, sum-next, sum-within}
+use Rattle.laws.proofs.Below.{max-same, sum-next, sum-within, sum-at}
 use Rattle.laws.proofs.Turn.{turn-next, turn-is, list-at, list-long, list-next, list-same}
 use Rattle.excitation.specs.Excitation.{l}
 use Rattle.excitation.specs.UncertaintySet.{UncertaintySet, empty, single, Held, setsIn}
@@ -24,16 +22,16 @@ use Rattle.block.specs.Record.{File, netCount, isInput}
 use Rattle.block.specs.View.{pinOf, GateRead}
 use Rattle.block.specs.declared.Gate.{Gate}
 use Rattle.block.proofs.Accepted.{arrival-at}
-use Rattle.sheet.specs.Sheet.{sheetWords, sheetIn}
+use Rattle.sheet.specs.Changes.{restoredIn}
 use Rattle.sheet.specs.Words.{Cleared}
-use Rattle.sheet.proofs.Totals.{total-cleared, word-within-total}
-use Rattle.sheet.proofs.Sheets.{sheet-is}
+use Rattle.sheet.proofs.Changes.{cleared-restored}
+use Rattle.sheet.proofs.Totals.{total-cleared}
 use Rattle.rows.specs.Rows.{setIn}
-use Rattle.waveform.specs.Rows.{waveformIn, waveformsIn, arrivalIn, arrivalsIn, lastIn, latestIn, SettledRow, Ready, GateMade}
+use Rattle.waveform.specs.Rows.{waveformIn, waveformsIn, arrivalIn, arrivalsIn, latestIn, SettledRow, Ready, GateMade}
 use Rattle.waveform.specs.Waveform.{envelope, inputWaveform, gateWaveform, netWaveform, waveforms}
 use Rattle.waveform.proofs.Settles.{SwitchesWithin, firstTick, waveformOf, waveform-at, net-settles}
 use Rattle.waveform.proofs.Waveforms.{net-input, net-gate}
-use Rattle.current.specs.Current.{Transitions, ticksWhere, gateCurrent, part, contactCurrent, transitionsOf, sheetOf}
+use Rattle.current.specs.Current.{Transition, transitionsFrom, gateCurrent, part, contactCurrent, transitionsOf, sheetOf}
 use Rattle.current.specs.Drawing.{transitionsIn, Drawable, Drawn}
 use Rattle.current.proofs.Contacts.{part-of-gate, part-of-input}
 use Rattle.current.proofs.Totals.{total-drawn}
@@ -41,8 +39,8 @@ use Rattle.evaluation.specs.Evaluation.{HasRows, InputsMade}
 use Rattle.evaluation.proofs.Rows.{has-row, waveform-kept, arrival-kept, settled-kept}
 
 -- The transitions of every net.
-abbrev pub transitionsFrom : File → ℕ → List UncertaintySet → List Transitions
-transitionsFrom file hops sets = map (transitionsOf (envelope hops)) (waveforms (envelope hops) file sets (netCount file))
+abbrev pub transitionLists : File → ℕ → List UncertaintySet → List (List Transition)
+transitionLists file hops sets = map (transitionsOf (envelope hops)) (waveforms (envelope hops) file sets (netCount file))
 
 -- The buffers once the first n nets are evaluated. At each tick no more flows than n gates may draw.
 pub record Evaluating (file : File) (hops : ℕ) (sets : List UncertaintySet) (n : ℕ) (work words : List ℕ) : Type 0 where
@@ -50,16 +48,16 @@ pub record Evaluating (file : File) (hops : ℕ) (sets : List UncertaintySet) (n
   pub times : arrivalsIn work n ≡ arrivals file n
   pub settled : (net : ℕ) → net < n → SettledRow work net
   pub long : length words ≡ 8192
-  pub at : (i : ℕ) → i < 8192 → getD words i 0 ≡ sumBelow n (part file (transitionsFrom file hops sets) (i / 512) (i % 512))
-  pub most : (t : ℕ) → t < 512 → sumBelow 16 (λ c. sheetIn words c t) ≤ n * gateLimit
+  pub at : (c t : ℕ) → c < 16 → t < 512 → restoredIn words c t ≡ sumBelow n (part file (transitionLists file hops sets) c t)
+  pub most : (t : ℕ) → t < 512 → sumBelow 16 (λ c. restoredIn words c t) ≤ n * gateLimit
 
 module _ (file : File) (nets inputs : ℕ) (accepted : AcceptedFile file nets inputs) (hops : ℕ) (sets : List UncertaintySet) where
-  abbrev transitions : List Transitions
-  transitions = transitionsFrom file hops sets
+  abbrev transitions : List (List Transition)
+  transitions = transitionLists file hops sets
 
   pub net-transitions : (net : ℕ) → net < nets
-      → getD transitions net (record { rises = []; falls = [] }) ≡ transitionsOf (envelope hops) (waveformOf file nets inputs accepted hops sets net)
-  unfolding transitionsOf ticksWhere
+      → getD transitions net [] ≡ transitionsOf (envelope hops) (waveformOf file nets inputs accepted hops sets net)
+  unfolding transitionsOf transitionsFrom
   net-transitions net h =
       List·getD-map (transitionsOf (envelope hops)) (waveforms (envelope hops) file sets (netCount file)) net (record { before = empty; ticks = [] })
       ∙ ap (transitionsOf (envelope hops)) (waveform-at file nets inputs accepted hops sets (netCount file) net _ (rw (accepted .net-count) h))
@@ -142,50 +140,29 @@ module _ (file : File) (nets inputs : ℕ) (accepted : AcceptedFile file nets in
             let short = next-checked .ranges .delay-high in
             subst Held (sym (set-is t (omega arith))) (settles .early t (rw first-tick h))
 
-        late : (t : ℕ) → arrival file n < t → t < 256 → Held (setIn after n t)
-        late t h q = subst Held (sym (set-is t q)) (settles .late t h)
-
-        -- After the tick from which on its sets are the same it has the set of tick 255, past its arrival. A gate that arrives at tick 255
-        -- has no tick after it.
-        later : (last t : ℕ) → last ≡ lastIn after n → last < t → t < 256 → Held (setIn after n t)
-        later last t e h q =
-            let arrives = accepted .arrives n here in
-            cases (eqb (arrivalIn after n) 255)
-            (λ z. let end = made .at-end (eqb-true (arrivalIn after n) 255 z) in absurd (omega arith))
-            (λ z. let early : (arrivalIn after n ≡ 255 → ⊥) = eqb-false (arrivalIn after n) 255 z in
-            subst Held (sym (made .settled .settled .same t (omega arith) q)) (late 255 (omega (arith, next-arrives)) (omega arith)))
-
         -- It can be drawn.
-        word-low : (i : ℕ) → getD words i 0 ≤ n * gateLimit
-        word-low i =
-            cases (ltb i 8192)
-            (λ b. let q = ltb-true i 8192 b in omega (arith, word-within-total words i q, done .most (i % 512) (omega arith)))
-            (λ b. let q = ltb-false i 8192 b in omega (arith, List·getD-eq-default words 0 {n = i} (omega (arith, done .long))))
+        current-low : (c t : ℕ) → c < 16 → t < 512 → restoredIn words c t ≤ n * gateLimit
+        current-low c t h l = omega (arith, sum-at 16 (λ c. restoredIn words c t) c h, done .most t l)
 
-        pub next-drawable : HasRows work nets → (last : ℕ) → last ≡ lastIn after n → Drawable gate after n last words
-        next-drawable rows last e = record {
+        pub next-drawable : HasRows work nets → Drawable gate after n words
+        next-drawable rows = record {
           ranges = next-checked .ranges;
           fits = read .fits;
           row = has-row n (record { whole = omega (arith, rows .whole, made .others .long); numbered = rows .numbered }) here;
-          in-time = (let arrives = accepted .arrives n here in omega (arith, made .settled .soon, next-arrives));
-          between = record {
-            no-rise-before = λ t h. early t h .no-lh;
-            no-fall-before = λ t h. early t h .no-hl;
-            no-rise-after = λ t h q. later last t e h q .no-lh;
-            no-fall-after = λ t h q. later last t e h q .no-hl;
-          };
+          no-rise-before = λ t h. early t h .no-lh;
+          no-fall-before = λ t h. early t h .no-hl;
           long = done .long;
-          room = λ i. (let q = accepted .few-nets in omega (arith, word-low i));
+          room = λ c t h l. (let q = accepted .few-nets in omega (arith, current-low c t h l));
         }
 
-        transitions-are : transitionsIn after n ≡ getD transitions n (record { rises = []; falls = [] })
+        transitions-are : transitionsIn after n ≡ getD transitions n []
         unfolding transitionsIn transitionsOf waveformOf
         transitions-are = ap (transitionsOf (envelope hops)) made-is ∙ sym (net-transitions n (omega arith))
 
         part-is : (c t : ℕ) → cond (eqb (gate .contact) c) (gateCurrent gate (transitionsIn after n) t) 0 ≡ part file transitions c t n
         part-is c t =
             ap (λ ts. cond (eqb (gate .contact) c) (gateCurrent gate ts t) 0) transitions-are
-            ∙ ap (λ g. cond (eqb (g .contact) c) (gateCurrent g (getD transitions n (record { rises = []; falls = [] })) t) 0) (read .is)
+            ∙ ap (λ g. cond (eqb (g .contact) c) (gateCurrent g (getD transitions n []) t) 0) (read .is)
             ∙ sym (part-of-gate file transitions c t n no-input)
 
         -- And then it is evaluated.
@@ -195,16 +172,15 @@ module _ (file : File) (nets inputs : ℕ) (accepted : AcceptedFile file nets in
           times = times-next;
           settled = below-more (SettledRow after) n (λ net h. settled-kept (made .others) net (λ e. omega arith) (done .settled net h)) (made .settled);
           long = drawn .long;
-          at = λ i h. drawn .at i h ∙ rw (done .at i h, part-is (i / 512) (i % 512)) (sym (sum-next n (part file transitions (i / 512) (i % 512))));
+          at = λ c t h l. drawn .at c t h l ∙ rw (done .at c t h l, part-is c t) (sym (sum-next n (part file transitions c t)));
           most = λ t h. (let more = total-drawn drawn t h in let before = done .most t h in omega arith);
         }
 
-  -- Every gate is evaluated: the sheet is the definition's.
-  pub all-evaluated : {work words : List ℕ} → Evaluating file hops sets nets work words → words ≡ sheetWords (sheetOf (envelope hops) file sets)
+  -- Every gate is evaluated: the changes give the definition's sheet.
+  pub all-evaluated : {work words : List ℕ} → Evaluating file hops sets nets work words → (c t : ℕ) → c < 16 → t < 512
+      → restoredIn words c t ≡ sheetOf (envelope hops) file sets c t
   unfolding sheetOf contactCurrent
-  all-evaluated {work} {words} done =
-      sheet-is words (sheetOf (envelope hops) file sets) (done .long)
-      (λ i h. done .at i h ∙ ap (λ n. sumBelow n (part file transitions (i / 512) (i % 512))) (sym (accepted .net-count)))
+  all-evaluated done c t h l = done .at c t h l ∙ ap (λ n. sumBelow n (part file transitions c t)) (sym (accepted .net-count))
 
 input-arrives : (file : File) (below : List ℕ) (net : ℕ) → isInput file net ≡ true → arrivalFrom file below net ≡ switchingTick file net
 unfolding arrivalFrom
@@ -215,10 +191,10 @@ module _ (file : File) (nets inputs : ℕ) (accepted : AcceptedFile file nets in
   abbrev sets : List UncertaintySet
   sets = setsIn inputs codes
 
-  inputs-quiet : (c t n : ℕ) → n ≤ inputs → sumBelow n (part file (transitionsFrom file hops sets) c t) ≡ 0
+  inputs-quiet : (c t n : ℕ) → n ≤ inputs → sumBelow n (part file (transitionLists file hops sets) c t) ≡ 0
   inputs-quiet c t n h =
-      let none = sum-within n (part file (transitionsFrom file hops sets) c t) 0
-      (λ net l. let e = part-of-input file (transitionsFrom file hops sets) c t net (accepted .input net (omega arith) .input) in omega arith) in
+      let none = sum-within n (part file (transitionLists file hops sets) c t) 0
+      (λ net l. let e = part-of-input file (transitionLists file hops sets) c t net (accepted .input net (omega arith) .input) in omega arith) in
       omega arith
 
   pub inputs-evaluated : {given work words : List ℕ} → InputsMade file inputs codes given work → Cleared words
@@ -233,6 +209,6 @@ module _ (file : File) (nets inputs : ℕ) (accepted : AcceptedFile file nets in
         (λ net h. list-at inputs (arrivalIn work) net 0 h ∙ made .arrives net h ∙ sym (input-arrives file (inTurn (arrivalFrom file) net) net (accepted .input net h .input)));
     settled = made .settled;
     long = clear .long;
-    at = λ i h. clear .at i ∙ sym (inputs-quiet (i / 512) (i % 512) inputs (omega arith));
+    at = λ c t h l. cleared-restored clear c t ∙ sym (inputs-quiet c t inputs (omega arith));
     most = λ t h. omega (arith, total-cleared clear t);
   }

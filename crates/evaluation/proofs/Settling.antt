@@ -1,9 +1,10 @@
 -- The settling tick: no contact of an accepted block draws current after it, which bounds the drop's loop and the scan for the quiet tick.
 -- Nor does one at tick 0.
 -- Assumes nothing.
-use Prim.Native.Nat.{ℕ, _+_, _≤_, _<_}
+use Prim.Native.Nat.{ℕ, zero, suc, _+_, _*_, _/_, _%_, _≤_, _<_}
 use mathlib.Core.Bool.{false, cond}
 use mathlib.Core.List.{List}
+use mathlib.Core.Logic.{inr}
 use mathlib.Core.Path.{_≡_, refl, ap, sym, _∙_}
 use native.Mathlib.Omega.{arith}
 use lib.Dec.{eqb, ltb}
@@ -11,30 +12,32 @@ use lib.ListN.{getD}
 use borrow.Author.Tests.{ltb-true, ltb-false}
 use borrow.Table.Steps.{cases}
 use Rattle.laws.specs.Below.{maxBelow}
-use Rattle.laws.proofs.Below.{max-at, max-beyond, sum-within}
+use Rattle.laws.proofs.Below.{max-at, max-beyond, sum-same, sum-within}
 use Rattle.excitation.specs.Excitation.{hl, lh}
 use Rattle.excitation.specs.UncertaintySet.{UncertaintySet, member, empty, setsIn}
 use Rattle.block.specs.Accepted.{AcceptedFile}
 use Rattle.block.specs.Block.{arrivals, arrival, arrivalFrom, lastPulseEnd, settlingTick}
-use Rattle.block.specs.Limits.{resistanceLimit}
+use Rattle.block.specs.Limits.{resistanceLimit, wordLimit}
 use Rattle.block.specs.Record.{File, netCount, isInput}
 use Rattle.block.specs.View.{gateOf, GateRead}
 use Rattle.block.specs.declared.Gate.{Gate}
 use Rattle.block.proofs.Accepted.{arrival-at}
-use Rattle.sheet.specs.Quiet.{Empty, QuietFrom}
-use Rattle.sheet.specs.Sheet.{sheetIn, dropOf, quietTick}
+use Rattle.sheet.specs.Changes.{restoredIn, Restored}
+use Rattle.sheet.specs.Quiet.{Empty}
+use Rattle.sheet.specs.Sheet.{Sheet, sheetWords, sheetIn, dropOf, quietTick}
+use Rattle.sheet.specs.Sums.{Droppable}
+use Rattle.sheet.proofs.Changes.{no-change}
 use Rattle.sheet.proofs.Totals.{drop-below}
 use Rattle.sheet.proofs.QuietTick.{quiet-last}
-use Rattle.sheet.proofs.Sheets.{sheet-held, sheet-long, drop-of-words, quiet-of-words}
+use Rattle.sheet.proofs.Sheets.{sheet-is, drop-of-words, quiet-of-words}
 use Rattle.waveform.specs.Waveform.{envelope}
 use Rattle.waveform.proofs.Settles.{firstTick, waveformOf, net-settles}
 use Rattle.current.specs.Current.{gateCurrent, part, contactCurrent, transitionsOf, sheetOf}
 use Rattle.current.proofs.Contacts.{part-of-gate, part-of-input}
-use Rattle.current.proofs.Gates.{current-waits, current-quiet}
-use Rattle.current.proofs.Ticks.{ticks-at-most, ticks-at-least}
+use Rattle.current.proofs.Currents.{current-waits, current-quiet}
 use Rattle.evaluation.specs.Evaluation.{envelopeSheet, sheetFor, BlockDrawn, Evaluated}
 use Rattle.evaluation.specs.declared.Setting.{Setting}
-use Rattle.evaluation.proofs.Drawing.{transitionsFrom, net-transitions}
+use Rattle.evaluation.proofs.Drawing.{transitionLists, net-transitions}
 
 -- The tick after which no pulse of a net is left, 0 for an input.
 abbrev pub netSettling : File → ℕ → ℕ
@@ -81,7 +84,7 @@ module _ (file : File) (nets inputs : ℕ) (accepted : AcceptedFile file nets in
 
     -- At a tick at which no gate draws, no contact does.
     module _ (t : ℕ) (none : (net : ℕ) → inputs ≤ net → net < nets → drawnBy net t ≡ 0) where
-      part-none : (c net : ℕ) → net < nets → part file (transitionsFrom file hops sets) c t net ≡ 0
+      part-none : (c net : ℕ) → net < nets → part file (transitionLists file hops sets) c t net ≡ 0
       part-none c net high =
           cases (ltb net inputs)
           (λ b. part-of-input file _ c t net (accepted .input net (ltb-true net inputs b) .input))
@@ -94,7 +97,7 @@ module _ (file : File) (nets inputs : ℕ) (accepted : AcceptedFile file nets in
       sheet-none : (c : ℕ) → sheetOf (envelope hops) file sets c t ≡ 0
       unfolding sheetOf contactCurrent
       sheet-none c =
-          let within = sum-within (netCount file) (part file (transitionsFrom file hops sets) c t) 0
+          let within = sum-within (netCount file) (part file (transitionLists file hops sets) c t) 0
           (λ net l. let m : net < nets = rw (accepted .net-count) at l in let e = part-none c net m in omega arith) in
           omega arith
 
@@ -106,20 +109,16 @@ module _ (file : File) (nets inputs : ℕ) (accepted : AcceptedFile file nets in
         let within = settling-within net high in
         let is = gate-settling net high no-input in
         let arrives = gate-arrives file net no-input in
-        current-quiet (gateOf file net) _ (arrival file net) t
-        (ticks-at-most (member lh) empty _ (arrival file net) (λ x l. settles .late x l .no-lh))
-        (ticks-at-most (member hl) empty _ (arrival file net) (λ x l. settles .late x l .no-hl))
-        (omega arith)
+        current-quiet (gateOf file net) (member lh) (member hl) _ empty (arrival file net) t (λ x l. settles .late x l .no-lh)
+        (λ x l. settles .late x l .no-hl) (omega arith)
 
     gate-waits : (net : ℕ) → inputs ≤ net → net < nets → drawnBy net 0 ≡ 0
     unfolding transitionsOf
     gate-waits net low high =
         let settles = net-settles file nets inputs accepted hops sets net high in
         let first : firstTick file net ≡ gateOf file net .delay = rw (accepted .no-input net low high) refl in
-        current-waits (gateOf file net) _ (gateOf file net .delay) 0
-        (ticks-at-least (member lh) empty _ _ (λ x l. settles .early x (rw first l) .no-lh))
-        (ticks-at-least (member hl) empty _ _ (λ x l. settles .early x (rw first l) .no-hl))
-        (omega arith)
+        current-waits (gateOf file net) (member lh) (member hl) _ empty (gateOf file net .delay) 0 (λ x l. settles .early x (rw first l) .no-lh)
+        (λ x l. settles .early x (rw first l) .no-hl) (omega arith)
 
     -- No current flows after the settling tick.
     pub sheet-quiet : (c t : ℕ) → settlingTick file < t → sheetOf (envelope hops) file sets c t ≡ 0
@@ -133,27 +132,57 @@ module _ (file : File) (nets inputs : ℕ) (accepted : AcceptedFile file nets in
     pub quiet-empty : quietTick (envelopeSheet hops file sets) ≡ 0 → Empty (envelopeSheet hops file sets)
     quiet-empty e = quiet-last (envelopeSheet hops file sets) .at (λ c h. ap (envelopeSheet hops file sets c) e ∙ sheet-waits c)
 
--- So the rows of a block that is drawn are 0 from the tick after the settling tick on.
-pub drawn-quiet : {file : File} {setting : Setting} {codes words : List ℕ} {settling : ℕ} → AcceptedFile file (setting .nets) (setting .inputs)
-    → BlockDrawn file setting codes settling words → QuietFrom (settling + 1) words
-drawn-quiet {file} {setting} {codes} accepted drawn =
-    let s = sheetFor file setting codes in
-    let silent = sheet-quiet file (setting .nets) (setting .inputs) accepted (setting .hops) (setsIn (setting .inputs) codes) in
-    record {
-      ticks = omega (arith, drawn .soon);
-      long = sheet-long s (drawn .sheet);
-      rows = λ c t h late inside. sheet-held s (drawn .sheet) c t h inside ∙ silent c t (omega (arith, drawn .settled));
-    }
+-- A block that is drawn, once the currents are restored up to past the settling tick.
+module _ {file : File} {setting : Setting} {codes words after : List ℕ} {settling : ℕ} (accepted : AcceptedFile file (setting .nets) (setting .inputs))
+    (drawn : BlockDrawn file setting codes settling words) (restored : Restored (settling + 2) words after)
+    (fits : (i : ℕ) → getD words i 0 < wordLimit) where
+  abbrev drawnSheet : Sheet
+  drawnSheet = sheetFor file setting codes
 
--- A block that is drawn, with its drop taken and its quiet tick found, is evaluated.
-pub evaluated : {file : File} {setting : Setting} {codes table words : List ℕ} {settling drop quiet : ℕ} → BlockDrawn file setting codes settling words
-    → drop ≡ dropOf table (sheetIn words) → quiet ≡ quietTick (sheetIn words) → ((i : ℕ) → getD table i 0 < resistanceLimit)
-    → Evaluated table (sheetFor file setting codes) (record { drop = drop; quiet = quiet }) words
-evaluated {file} {setting} {codes} {table} {words} {settling} {drop} {quiet} drawn is last small =
-    let drop-is : drop ≡ dropOf table (sheetFor file setting codes) = is ∙ drop-of-words table (sheetFor file setting codes) (drawn .sheet) in
-    let quiet-is : quiet ≡ quietTick (sheetFor file setting codes) = last ∙ quiet-of-words (sheetFor file setting codes) (drawn .sheet) in
-    record {
-      answered = λ i. record { drop = drop-is i; quiet = quiet-is i };
-      written = drawn .sheet;
-      low = omega (arith, is, drop-below table (sheetIn words) small (drawn .most));
-    }
+  quiet-after : (c t : ℕ) → settling < t → drawnSheet c t ≡ 0
+  quiet-after c t h =
+      sheet-quiet file (setting .nets) (setting .inputs) accepted (setting .hops) (setsIn (setting .inputs) codes) c t (omega (arith, drawn .settled))
+
+  -- Past the ticks that are restored the words are the currents already: no current flows, so that nothing changes.
+  still-after : (c t : ℕ) → c < 16 → settling + 2 ≤ suc t → suc t < 512 → sheetIn words c (suc t) ≡ 0
+  still-after c t h late l =
+      no-change (sheetIn words c) t (fits (512 * c + suc t))
+      (drawn .at c (suc t) h l ∙ quiet-after c (suc t) (omega arith) ∙ sym (drawn .at c t h (omega arith) ∙ quiet-after c t (omega arith)))
+
+  word-restored : (c t : ℕ) → c < 16 → t < 512 → sheetIn after c t ≡ drawnSheet c t
+  word-restored c zero h l = restored .before c 0 h (omega arith) ∙ drawn .at c 0 h l
+  word-restored c (suc t) h l =
+      cases (ltb (suc t) (settling + 2))
+      (λ b. restored .before c (suc t) h (ltb-true (suc t) (settling + 2) b) ∙ drawn .at c (suc t) h l)
+      (λ b. let late = ltb-false (suc t) (settling + 2) b in
+      restored .rest c (suc t) h l (inr late) ∙ still-after c t h late l ∙ sym (quiet-after c (suc t) (omega arith)))
+
+  pub sheet-restored : after ≡ sheetWords drawnSheet
+  sheet-restored =
+      sheet-is after drawnSheet (restored .long)
+      (λ i h. let place : 512 * (i / 512) + i % 512 ≡ i = omega arith in
+      sym (ap (λ j. getD after j 0) place) ∙ word-restored (i / 512) (i % 512) (omega arith) (omega arith))
+
+  -- Its rows are 0 from the tick after the settling tick on, and at no tick do they draw more than all gates may.
+  pub restored-droppable : Droppable (settling + 1) after
+  restored-droppable = record {
+    quiet = record {
+      ticks = omega (arith, drawn .soon);
+      long = restored .long;
+      rows = λ c t h late inside. word-restored c t h inside ∙ quiet-after c t (omega arith);
+    };
+    most = λ t h. omega (arith, drawn .most t h, sum-same 16 (λ c. sheetIn after c t) (λ c. restoredIn words c t)
+        (λ c l. word-restored c t l h ∙ sym (drawn .at c t l h)));
+  }
+
+  -- With its drop taken and its quiet tick found, it is evaluated.
+  pub evaluated : {table : List ℕ} {drop quiet : ℕ} → drop ≡ dropOf table (sheetIn after) → quiet ≡ quietTick (sheetIn after)
+      → ((i : ℕ) → getD table i 0 < resistanceLimit) → Evaluated table drawnSheet (record { drop = drop; quiet = quiet }) after
+  evaluated {table} {drop} {quiet} is last small =
+      let drop-is : drop ≡ dropOf table drawnSheet = is ∙ drop-of-words table drawnSheet sheet-restored in
+      let quiet-is : quiet ≡ quietTick drawnSheet = last ∙ quiet-of-words drawnSheet sheet-restored in
+      record {
+        answered = λ i. record { drop = drop-is i; quiet = quiet-is i };
+        written = sheet-restored;
+        low = omega (arith, is, drop-below table (sheetIn after) small (restored-droppable .most));
+      }

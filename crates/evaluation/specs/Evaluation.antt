@@ -10,7 +10,8 @@ use Rattle.block.specs.Accepted.{AcceptedFile}
 use Rattle.block.specs.Block.{settlingTick, switchingTick}
 use Rattle.block.specs.Limits.{blockLimit, dropLimit}
 use Rattle.block.specs.Record.{File}
-use Rattle.sheet.specs.Sheet.{Sheet, sheetWords, dropOf, sheetIn, quietTick}
+use Rattle.sheet.specs.Changes.{restoredIn}
+use Rattle.sheet.specs.Sheet.{Sheet, sheetWords, dropOf, quietTick}
 use Rattle.waveform.specs.Rows.{waveformIn, arrivalIn, SettledRow}
 use Rattle.waveform.specs.Waveform.{simulation, envelope, inputWaveform}
 use Rattle.current.specs.Current.{sheetOf}
@@ -54,10 +55,12 @@ pub record Evaluable (file : File) (setting : Setting) (words work : List ℕ) :
 abbrev pub sheetFor : File → Setting → List ℕ → Sheet
 sheetFor file setting codes = envelopeSheet (setting .hops) file (setsIn (setting .inputs) codes)
 
--- The sheet once every gate is drawn, and the tick after which no pulse is left. At no tick do the contacts draw more than all gates may.
+-- Words of changes once every gate is drawn, and the tick after which no pulse is left. At no tick do the contacts draw more than all gates
+-- may.
 pub record BlockDrawn (file : File) (setting : Setting) (codes : List ℕ) (settling : ℕ) (words : List ℕ) : Type 0 where
-  pub sheet : words ≡ sheetWords (sheetFor file setting codes)
-  pub most : (t : ℕ) → t < 512 → sumBelow 16 (λ c. sheetIn words c t) ≤ blockLimit
+  pub long : length words ≡ 8192
+  pub at : (c t : ℕ) → c < 16 → t < 512 → restoredIn words c t ≡ sheetFor file setting codes c t
+  pub most : (t : ℕ) → t < 512 → sumBelow 16 (λ c. restoredIn words c t) ≤ blockLimit
   pub settled : settling ≡ settlingTick file
   pub soon : settling < 511
 

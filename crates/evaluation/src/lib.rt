@@ -39,7 +39,8 @@ fn last_pulse_end(gate: Gate, arrival: usize) -> usize
     arrival - gate.delay + gate.rise + gate.fall
 }
 
-// Draws the current of every gate of a block whose inputs have these sets. Returns the tick after which no pulse is left.
+// Draws the current of every gate of a block whose inputs have these sets, in the changes of a sheet. Returns the tick after which no
+// pulse is left.
 fn draw(file: &[u8], setting: Setting, codes: &[u8], sheet: &mut [Word], work: &mut [u8]) -> usize
     requires { ⌜ Evaluable (now file) setting (now sheet) (now work) × InputCodes (setting .inputs) (now codes) ⌝ }
     ensures { λ r. ⌜ BlockDrawn (now (file .entry)) setting (now (codes .entry)) r (now (sheet .exit)) ⌝ }
@@ -51,8 +52,8 @@ fn draw(file: &[u8], setting: Setting, codes: &[u8], sheet: &mut [Word], work: &
     let mut net = setting.inputs;
     while net < setting.nets {
         let gate = view::gate(file, Net(net));
-        let last = waveform::gate_waveform(Net(net), gate, &joins, setting.hops, work);
-        current::draw_gate(gate, work, Net(net), last, sheet);
+        waveform::gate_waveform(Net(net), gate, &joins, setting.hops, work);
+        current::draw_gate(gate, work, Net(net), sheet);
         let arrival = waveform::arrival(work, Net(net));
         settling = numbers::max_usize(settling, last_pulse_end(gate, arrival));
         net += 1;
@@ -73,6 +74,7 @@ pub fn evaluate(
     ensures { λ r. ⌜ Evaluated (now (table .entry)) (sheetFor (now (file .entry)) setting (now (codes .entry))) r (now (sheet .exit)) ⌝ }
 {
     let settling = draw(file, setting, codes, sheet, work);
+    sheet::restore_rows(sheet, settling + 2);
     let drop = sheet::greatest_drop(table, sheet, settling + 1);
     let quiet = sheet::quiet_tick(sheet, settling + 1);
     Currents {

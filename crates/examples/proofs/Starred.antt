@@ -29,7 +29,7 @@ use Rattle.fill.specs.Fill.{holding, fillTicks, setsHolding, filled}
 use Rattle.fill.specs.Gaps.{gapsAfter, gaps, shorter, shortest, close, closeFirst, closeShortest, closeWhile, merged}
 use Rattle.fill.proofs.Examples.{fill-examples}
 use Rattle.waveform.specs.Waveform.{earlier, inputWaveform, gateFrom, pinWaveform, gateAt, gateWaveform, netWaveform, waveforms}
-use Rattle.current.specs.Current.{ticksWhere, greatestAt, gateCurrent, drawsAt, part, contactCurrent, transitionsOf, sheetOf}
+use Rattle.current.specs.Current.{edgePulse, allowedPulse, gateCurrent, transitionsFrom, drawsAt, part, contactCurrent, transitionsOf, sheetOf}
 use Rattle.current.specs.Examples.{tableF}
 use Rattle.current.specs.Pulse.{levelAfter, pulse, pulseAt}
 use Rattle.current.specs.Rounding.{evenOf, nearest}
@@ -50,14 +50,28 @@ use Rattle.program.specs.Lines.{digits, decimal, line}
 use Rattle.program.specs.Program.{programArguments, excitationWord, searchText, programText}
 use Rattle.program.proofs.Searches.{programChecks}
 
--- How the searches of block F and block S end: with their frame as the one case, or, block S as the program searches it, with a case for
--- each excitation of its input.
+-- How the searches of block F and block S end: with their frame as the one case, or, after a split, with a case for each excitation of their
+-- first input.
 
 abbrev frameEnd : Outcome → File → ℕ → ℕ → List Excitation → SearchEnd
 frameEnd outcome file upper lower pattern = record {
   outcome = outcome;
   splits = 0;
   state = record { cases = record { sets = frame file; upper = upper } ∷ []; best = record { lower = lower; pattern = pattern } };
+}
+
+abbrev endF : SearchEnd
+endF = record {
+  outcome = Exact;
+  splits = 1;
+  state = record {
+    cases = record { sets = single l ∷ decode 15 ∷ []; upper = 31 }
+        ∷ record { sets = single h ∷ decode 15 ∷ []; upper = 0 }
+        ∷ record { sets = single hl ∷ decode 15 ∷ []; upper = 31 }
+        ∷ record { sets = single lh ∷ decode 15 ∷ []; upper = 66 }
+        ∷ [];
+    best = record { lower = 66; pattern = lh ∷ lh ∷ [] };
+  };
 }
 
 abbrev endS : SearchEnd
@@ -74,17 +88,21 @@ endS = record {
   };
 }
 
-ends-F : searchOf (searching blockF tableF 1000 200) ≡ frameEnd Exact blockF 56 56 (lh ∷ lh ∷ [])
-unfolding allBelow anyBelow maxBelow argmax sumBelow countBelow inTurn listBelow excitationOf member decode joinSets each size isInput kindOf gateValue gateOf switchingTick inputsBelow frame feeds fedFrom coneSize extend runsFrom gapsAfter gaps shorter shortest close closeFirst closeShortest closeWhile merged inside holding ticksInside fillTicks setsHolding filled earlier inputWaveform gateFrom pinWaveform gateAt gateWaveform netWaveform waveforms evenOf nearest levelAfter pulse pulseAt ticksWhere greatestAt gateCurrent drawsAt part contactCurrent dropAt dropOf transitionsOf sheetOf undecided decided firstAllowed probe evaluationOf membersBelow childrenBelow coneSizes rankOf rank chosenInput upperAt setsAt greatestUpper nextSplit placed outcomeOf better bestOf firstBest madeUnder firstState nextChildren split outcomeAt searchFrom search searchOf
+ends-unsplit-F : searchOf (searching blockF tableF 1000 0) ≡ frameEnd Spent blockF 67 66 (lh ∷ lh ∷ [])
+unfolding allBelow anyBelow maxBelow argmax sumBelow countBelow inTurn listBelow excitationOf member decode joinSets each size isInput kindOf gateValue gateOf switchingTick inputsBelow frame feeds fedFrom coneSize extend runsFrom gapsAfter gaps shorter shortest close closeFirst closeShortest closeWhile merged inside holding ticksInside fillTicks setsHolding filled earlier inputWaveform gateFrom pinWaveform gateAt gateWaveform netWaveform waveforms evenOf nearest levelAfter pulse pulseAt edgePulse allowedPulse gateCurrent transitionsFrom drawsAt part contactCurrent dropAt dropOf transitionsOf sheetOf undecided decided firstAllowed probe evaluationOf membersBelow childrenBelow coneSizes rankOf rank chosenInput upperAt setsAt greatestUpper nextSplit placed outcomeOf better bestOf firstBest madeUnder firstState nextChildren split outcomeAt searchFrom search searchOf
+ends-unsplit-F = refl
+
+ends-F : searchOf (searching blockF tableF 1000 200) ≡ endF
+unfolding allBelow anyBelow maxBelow argmax sumBelow countBelow inTurn listBelow excitationOf member decode joinSets each size isInput kindOf gateValue gateOf switchingTick inputsBelow frame feeds fedFrom coneSize extend runsFrom gapsAfter gaps shorter shortest close closeFirst closeShortest closeWhile merged inside holding ticksInside fillTicks setsHolding filled earlier inputWaveform gateFrom pinWaveform gateAt gateWaveform netWaveform waveforms evenOf nearest levelAfter pulse pulseAt edgePulse allowedPulse gateCurrent transitionsFrom drawsAt part contactCurrent dropAt dropOf transitionsOf sheetOf undecided decided firstAllowed probe evaluationOf membersBelow childrenBelow coneSizes rankOf rank chosenInput upperAt setsAt greatestUpper nextSplit placed outcomeOf better bestOf firstBest madeUnder firstState nextChildren split outcomeAt searchFrom search searchOf
 ends-F = refl
 
 ends-unsplit-S : (searchOf (searching blockS tableS 1999 0) ≡ frameEnd Spent blockS 20 10 (lh ∷ []))
     × (searchOf (searching blockS tableS 2000 0) ≡ frameEnd Within blockS 20 10 (lh ∷ []))
-unfolding allBelow anyBelow maxBelow argmax sumBelow countBelow inTurn listBelow excitationOf member decode joinSets each size isInput kindOf gateValue gateOf switchingTick inputsBelow frame feeds fedFrom coneSize extend runsFrom gapsAfter gaps shorter shortest close closeFirst closeShortest closeWhile merged inside holding ticksInside fillTicks setsHolding filled earlier inputWaveform gateFrom pinWaveform gateAt gateWaveform netWaveform waveforms evenOf nearest levelAfter pulse pulseAt ticksWhere greatestAt gateCurrent drawsAt part contactCurrent dropAt dropOf transitionsOf sheetOf undecided decided firstAllowed probe evaluationOf membersBelow childrenBelow coneSizes rankOf rank chosenInput upperAt setsAt greatestUpper nextSplit placed outcomeOf better bestOf firstBest madeUnder firstState nextChildren split outcomeAt searchFrom search searchOf
+unfolding allBelow anyBelow maxBelow argmax sumBelow countBelow inTurn listBelow excitationOf member decode joinSets each size isInput kindOf gateValue gateOf switchingTick inputsBelow frame feeds fedFrom coneSize extend runsFrom gapsAfter gaps shorter shortest close closeFirst closeShortest closeWhile merged inside holding ticksInside fillTicks setsHolding filled earlier inputWaveform gateFrom pinWaveform gateAt gateWaveform netWaveform waveforms evenOf nearest levelAfter pulse pulseAt edgePulse allowedPulse gateCurrent transitionsFrom drawsAt part contactCurrent dropAt dropOf transitionsOf sheetOf undecided decided firstAllowed probe evaluationOf membersBelow childrenBelow coneSizes rankOf rank chosenInput upperAt setsAt greatestUpper nextSplit placed outcomeOf better bestOf firstBest madeUnder firstState nextChildren split outcomeAt searchFrom search searchOf
 ends-unsplit-S = (refl, refl)
 
 ends-S : searchOf (searching blockS tableS 1000 200) ≡ endS
-unfolding allBelow anyBelow maxBelow argmax sumBelow countBelow inTurn listBelow excitationOf member decode joinSets each size isInput kindOf gateValue gateOf switchingTick inputsBelow frame feeds fedFrom coneSize extend runsFrom gapsAfter gaps shorter shortest close closeFirst closeShortest closeWhile merged inside holding ticksInside fillTicks setsHolding filled earlier inputWaveform gateFrom pinWaveform gateAt gateWaveform netWaveform waveforms evenOf nearest levelAfter pulse pulseAt ticksWhere greatestAt gateCurrent drawsAt part contactCurrent dropAt dropOf transitionsOf sheetOf undecided decided firstAllowed probe evaluationOf membersBelow childrenBelow coneSizes rankOf rank chosenInput upperAt setsAt greatestUpper nextSplit placed outcomeOf better bestOf firstBest madeUnder firstState nextChildren split outcomeAt searchFrom search searchOf
+unfolding allBelow anyBelow maxBelow argmax sumBelow countBelow inTurn listBelow excitationOf member decode joinSets each size isInput kindOf gateValue gateOf switchingTick inputsBelow frame feeds fedFrom coneSize extend runsFrom gapsAfter gaps shorter shortest close closeFirst closeShortest closeWhile merged inside holding ticksInside fillTicks setsHolding filled earlier inputWaveform gateFrom pinWaveform gateAt gateWaveform netWaveform waveforms evenOf nearest levelAfter pulse pulseAt edgePulse allowedPulse gateCurrent transitionsFrom drawsAt part contactCurrent dropAt dropOf transitionsOf sheetOf undecided decided firstAllowed probe evaluationOf membersBelow childrenBelow coneSizes rankOf rank chosenInput upperAt setsAt greatestUpper nextSplit placed outcomeOf better bestOf firstBest madeUnder firstState nextChildren split outcomeAt searchFrom search searchOf
 ends-S = refl
 
 -- The quiet ticks of their final sheets. Each sheet stands once, so that it is computed once.
@@ -93,12 +111,24 @@ ends-S = refl
 abbrev greatestOf : List Sheet → Sheet
 greatestOf sheets c t = maxBelow (length sheets) (λ k. getD sheets k (λ _ _. 0) c t)
 
+abbrev envelopesF : List Sheet
+envelopesF =
+    envelopeSheet 10 blockF (single l ∷ decode 15 ∷ [])
+    ∷ envelopeSheet 10 blockF (single h ∷ decode 15 ∷ [])
+    ∷ envelopeSheet 10 blockF (single hl ∷ decode 15 ∷ [])
+    ∷ envelopeSheet 10 blockF (single lh ∷ decode 15 ∷ [])
+    ∷ []
+
 abbrev simulatedS : List Sheet
 simulatedS =
     simulatedSheet blockS (l ∷ []) ∷ simulatedSheet blockS (h ∷ []) ∷ simulatedSheet blockS (hl ∷ []) ∷ simulatedSheet blockS (lh ∷ []) ∷ []
 
+quiet-F : quietTick (greatestOf envelopesF) ≡ 4
+unfolding anyBelow maxBelow lastBelow sumBelow countBelow inTurn listBelow excitationOf member decode joinSets each size isInput kindOf gateValue gateOf switchingTick inputsBelow frame extend runsFrom gapsAfter gaps shorter shortest close closeFirst closeShortest closeWhile merged inside holding ticksInside fillTicks setsHolding filled earlier inputWaveform gateFrom pinWaveform gateAt gateWaveform netWaveform waveforms evenOf nearest levelAfter pulse pulseAt edgePulse allowedPulse gateCurrent transitionsFrom drawsAt part contactCurrent flowsAt quietTick transitionsOf sheetOf
+quiet-F = refl
+
 quiet-S : (quietTick (envelopeSheet 10 blockS (frame blockS)) ≡ 1) × (quietTick (greatestOf simulatedS) ≡ 1)
-unfolding anyBelow maxBelow lastBelow sumBelow countBelow inTurn listBelow excitationOf member decode joinSets each size isInput kindOf gateValue gateOf switchingTick inputsBelow frame extend runsFrom gapsAfter gaps shorter shortest close closeFirst closeShortest closeWhile merged inside holding ticksInside fillTicks setsHolding filled earlier inputWaveform gateFrom pinWaveform gateAt gateWaveform netWaveform waveforms evenOf nearest levelAfter pulse pulseAt ticksWhere greatestAt gateCurrent drawsAt part contactCurrent flowsAt quietTick transitionsOf sheetOf
+unfolding anyBelow maxBelow lastBelow sumBelow countBelow inTurn listBelow excitationOf member decode joinSets each size isInput kindOf gateValue gateOf switchingTick inputsBelow frame extend runsFrom gapsAfter gaps shorter shortest close closeFirst closeShortest closeWhile merged inside holding ticksInside fillTicks setsHolding filled earlier inputWaveform gateFrom pinWaveform gateAt gateWaveform netWaveform waveforms evenOf nearest levelAfter pulse pulseAt edgePulse allowedPulse gateCurrent transitionsFrom drawsAt part contactCurrent flowsAt quietTick transitionsOf sheetOf
 quiet-S = (refl, refl)
 
 -- With the frame as the one case the sheet is its envelope.
@@ -112,10 +142,15 @@ frame-quiet file hops upper undecided-inputs =
     quiet-same (sheetOver file hops (record { sets = frame file; upper = upper } ∷ [])) (envelopeSheet hops file (frame file))
     (λ c t _ _. let one : max 0 (evaluated c t) ≡ evaluated c t = omega arith in one ∙ ap (λ (s : Sheet). s c t) is)
 
--- Block S split: the sheet is the greatest of the four simulations.
-split-quiet : quietTick (sheetOver blockS 10 (endS .state .cases)) ≡ quietTick (greatestOf simulatedS)
+-- Split, the sheet is the greatest of the four envelopes of block F's cases, and of the four simulations of block S's.
+
+split-quiet-F : quietTick (sheetOver blockF 10 (endF .state .cases)) ≡ quietTick (greatestOf envelopesF)
+unfolding casesSheet maxBelow allBelow setsAt evaluationOf decided undecided size member probe firstAllowed decode
+split-quiet-F = quiet-same _ _ (λ c t _ _. refl)
+
+split-quiet-S : quietTick (sheetOver blockS 10 (endS .state .cases)) ≡ quietTick (greatestOf simulatedS)
 unfolding casesSheet maxBelow allBelow setsAt evaluationOf decided undecided size member probe firstAllowed
-split-quiet = quiet-same _ _ (λ c t _ _. refl)
+split-quiet-S = quiet-same _ _ (λ c t _ _. refl)
 
 undecided-frames : (decided (frame blockF) ≡ false) × (decided (frame blockS) ≡ false)
 unfolding allBelow sumBelow countBelow inTurn listBelow excitationOf member decode joinSets each size isInput kindOf gateOf inputsBelow frame undecided decided
@@ -138,10 +173,14 @@ found-at given end quiet ends last =
       quiet = quiet-is i;
     }
 
-block-F : (foundBy (searching blockF tableF 1000 200) ≡ finding Exact 56 56 0 1 4)
+unsplit-F : foundBy (searching blockF tableF 1000 0) ≡ finding Spent 67 66 0 1 4
+unfolding maxBelow upperAt greatestUpper
+unsplit-F = found-at _ _ 4 ends-unsplit-F (frame-quiet blockF 10 67 (undecided-frames .0) ∙ current-examples .envelope-quiet)
+
+block-F : (foundBy (searching blockF tableF 1000 200) ≡ finding Exact 66 66 1 4 4)
     × (searchOf (searching blockF tableF 1000 200) .state .best .pattern ≡ lh ∷ lh ∷ [])
 unfolding maxBelow upperAt greatestUpper
-block-F = (found-at _ _ 4 ends-F (frame-quiet blockF 10 56 (undecided-frames .0) ∙ current-examples .envelope-quiet), ap (λ e. e .state .best .pattern) ends-F)
+block-F = (found-at _ _ 4 ends-F (split-quiet-F ∙ quiet-F), ap (λ e. e .state .best .pattern) ends-F)
 
 unsplit-S : (foundBy (searching blockS tableS 1999 0) ≡ finding Spent 20 10 0 1 1)
     × (foundBy (searching blockS tableS 2000 0) ≡ finding Within 20 10 0 1 1)
@@ -153,7 +192,7 @@ unsplit-S =
 block-S : (foundBy (searching blockS tableS 1000 200) ≡ finding Exact 10 10 1 4 1)
     × (searchOf (searching blockS tableS 1000 200) .state .best .pattern ≡ lh ∷ [])
 unfolding maxBelow upperAt greatestUpper
-block-S = (found-at _ _ 1 ends-S (split-quiet ∙ quiet-S .1), ap (λ e. e .state .best .pattern) ends-S)
+block-S = (found-at _ _ 1 ends-S (split-quiet-S ∙ quiet-S .1), ap (λ e. e .state .best .pattern) ends-S)
 
 -- The program on block S: it passes all checks, and what is found is printed.
 
@@ -179,6 +218,7 @@ text-S = rw (passes-S, found-S, probe-S) refl
 
 search-examples : SearchExamples
 search-examples = record {
+  spent-F = unsplit-F;
   exact-F = block-F .0;
   pattern-F = block-F .1;
   spent-S = unsplit-S .0;

@@ -47,8 +47,9 @@ finding outcome upper lower splits cases quiet = record {
 }
 
 pub record SearchExamples : Type 0 where
-  -- Block F, resistances 2, 1: ★ exact with no split.
-  pub exact-F : foundBy (searching blockF tableF 1000 200) ≡ finding Exact 56 56 0 1 4
+  -- Block F, resistances 2, 1: ★ with no split it is no longer exact; with one it is.
+  pub spent-F : foundBy (searching blockF tableF 1000 0) ≡ finding Spent 67 66 0 1 4
+  pub exact-F : foundBy (searching blockF tableF 1000 200) ≡ finding Exact 66 66 1 4 4
   pub pattern-F : searchOf (searching blockF tableF 1000 200) .state .best .pattern ≡ lh ∷ lh ∷ []
   -- Block S, resistance 1: ★ budget 0, ratio 1,999: spent, U 20, L 10; ★ ratio 2,000: within.
   pub spent-S : foundBy (searching blockS tableS 1999 0) ≡ finding Spent 20 10 0 1 1

@@ -15,21 +15,21 @@ use Rattle.block.specs.Accepted.{AcceptedFile}
 use Rattle.block.specs.Record.{File, netCount}
 use Rattle.waveform.specs.Waveform.{Waveform, simulation, envelope, waveforms}
 use Rattle.waveform.proofs.Singles.{singles, waveforms-single}
-use Rattle.current.specs.Current.{ticksWhere, transitionsOf, contactCurrent, sheetOf}
+use Rattle.current.specs.Current.{transitionsFrom, transitionsOf, contactCurrent, sheetOf}
 use Rattle.operation.specs.declared.Currents.{Currents}
 use Rattle.evaluation.specs.Evaluation.{simulatedSheet, envelopeSheet, InputCodes, Evaluated}
 use Rattle.evaluation.specs.declared.Setting.{Setting}
 use Rattle.simulator.specs.Simulate.{PatternCodes, SinglesEvaluated, patternSheet}
 
-ticks-single : (e : Excitation) (t : ℕ) (xs : List Excitation) → ticksWhere (member e) t (map single xs) ≡ ticksWhere (same e) t xs
-unfolding ticksWhere
-ticks-single e t [] = refl
-ticks-single e t (x ∷ xs) = rw (member-single e x, ticks-single e (suc t) xs) refl
+ticks-single : (x : ℕ) (es : List Excitation) → transitionsFrom (member lh) (member hl) x (map single es) ≡ transitionsFrom (same lh) (same hl) x es
+unfolding transitionsFrom
+ticks-single x [] = refl
+ticks-single x (e ∷ es) = rw (member-single lh e, member-single hl e, ticks-single (suc x) es) refl
 
 transitions-single : (hops : ℕ) (ws : List (Waveform Excitation)) → map (transitionsOf (envelope hops)) (map singles ws) ≡ map (transitionsOf simulation) ws
 unfolding transitionsOf
 transitions-single hops [] = refl
-transitions-single hops (w ∷ ws) = rw (ticks-single lh 0 (w .ticks), ticks-single hl 0 (w .ticks), transitions-single hops ws) refl
+transitions-single hops (w ∷ ws) = rw (ticks-single 0 (w .ticks), transitions-single hops ws) refl
 
 sheet-single : (hops : ℕ) (file : File) (pattern : List Excitation) → 128 ≤ hops → envelopeSheet hops file (map single pattern) ≡ simulatedSheet file pattern
 unfolding sheetOf

@@ -17,7 +17,7 @@ use Rattle.search.specs.Search.{SearchArguments, Searched}
 
 -- The version of the calls: a number that goes up with every change of what a call takes, answers or writes.
 abbrev pub version : ℕ
-version = 4
+version = 5
 
 -- Bench: the record count.
 abbrev pub benchNumbers : BenchAnswer → List ℕ

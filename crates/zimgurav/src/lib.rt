@@ -88,7 +88,7 @@ fn search_numbers(answer: SearchAnswer) -> [u64; 8]
 pub extern "C" fn zimgurav_version() -> u64
     ensures { λ r. ⌜ r ≡ version ⌝ }
 {
-    4
+    5
 }
 
 // Read: the file's counts of nets and inputs, or its refusal.

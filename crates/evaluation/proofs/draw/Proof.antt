@@ -90,7 +90,7 @@ draw-gate-requires c κs =
     let rows : HasRows (l .work) (setting .nets) = record { whole = omega (arith, g .rows .whole, begun, l .inv .2); numbered = g .rows .numbered } in
     let read = c .before .before .before .before .before .before .before .gate .ensures in
     let made = c .before .before .before .before .gate-waveform .ensures in
-    next-drawable file (setting .nets) (setting .inputs) (g .accepted) (setting .hops) sets (l .inv .3) (l .inv .1) (l .inv .0) here read (made .0) rows _ (made .1)
+    next-drawable file (setting .nets) (setting .inputs) (g .accepted) (setting .hops) sets (l .inv .3) (l .inv .1) (l .inv .0) here read made rows
 
 arrival-requires : tie.Need-arrival-requires Inv-loop μ-loop
 arrival-requires c κs =
@@ -105,7 +105,7 @@ arrival-requires c κs =
     let rows : HasRows (l .work) (setting .nets) = record { whole = omega (arith, g .rows .whole, begun, l .inv .2); numbered = g .rows .numbered } in
     let read = c .before .before .before .before .before .before .before .before .before .before .before .gate .ensures in
     let made = c .before .before .before .before .before .before .before .before .gate-waveform .ensures in
-    has-row (l .net) (record { whole = omega (arith, rows .whole, made .0 .others .long); numbered = rows .numbered }) here
+    has-row (l .net) (record { whole = omega (arith, rows .whole, made .others .long); numbered = rows .numbered }) here
 
 last-pulse-end-requires : tie.Need-last-pulse-end-requires Inv-loop μ-loop
 last-pulse-end-requires c κs =
@@ -122,7 +122,7 @@ last-pulse-end-requires c κs =
     let made = c .before .before .before .before .before .before .before .before .before .gate-waveform .ensures in
     let ranges = next-checked file (setting .nets) (setting .inputs) (g .accepted) (setting .hops) sets (l .inv .3) (l .inv .1) (l .inv .0) here read .ranges in
     let arrives = c .arrival .ensures in
-    (omega (arith, made .0 .arrives, arrives), omega (arith, arrives), omega (arith, ranges .rise-high), omega (arith, ranges .fall-high))
+    (omega (arith, made .arrives, arrives), omega (arith, arrives), omega (arith, ranges .rise-high), omega (arith, ranges .fall-high))
 
 max-usize-requires : tie.Need-max-usize-requires Inv-loop μ-loop
 max-usize-requires c κs = search needs
@@ -146,12 +146,12 @@ loop-again c =
     let rows : HasRows (l .work) (setting .nets) = record { whole = omega (arith, g .rows .whole, begun, l .inv .2); numbered = g .rows .numbered } in
     let read = c .before .before .before .before .before .before .before .before .before .before .before .before .before .before .gate .ensures in
     let made = c .before .before .before .before .before .before .before .before .before .before .before .gate-waveform .ensures in
-    let arrives = c .before .before .arrival .ensures .0 ∙ next-arrives file (setting .nets) (setting .inputs) (g .accepted) (setting .hops) sets (l .inv .3) (l .inv .1) (l .inv .0) here read (made .0) in
+    let arrives = c .before .before .arrival .ensures .0 ∙ next-arrives file (setting .nets) (setting .inputs) (g .accepted) (setting .hops) sets (l .inv .3) (l .inv .1) (l .inv .0) here read made in
     let flow = next-settling file (setting .nets) (setting .inputs) (g .accepted) (l .net) (l .inv .0) here read arrives (c .before .last-pulse-end .ensures) in (
       omega arith,
       omega arith,
-      made .0 .others .long ∙ l .inv .2,
-      next-evaluated file (setting .nets) (setting .inputs) (g .accepted) (setting .hops) sets (l .inv .3) (l .inv .1) (l .inv .0) here read (made .0) (c .before .before .before .before .before .before .draw-gate .ensures),
+      made .others .long ∙ l .inv .2,
+      next-evaluated file (setting .nets) (setting .inputs) (g .accepted) (setting .hops) sets (l .inv .3) (l .inv .1) (l .inv .0) here read made (c .before .before .before .before .before .before .draw-gate .ensures),
       c .max-usize .ensures ∙ rw (l .inv .4, flow .0) (sym (max-next (l .net) (netSettling file))),
       omega (arith, c .max-usize .ensures, flow .1),
     )
@@ -172,7 +172,8 @@ returns c =
     let e : l .net ≡ setting .nets = omega (arith, c .if1 .left, l .inv .1) in
     let done : Evaluating file (setting .hops) (setsIn (setting .inputs) (s .args .codes .now)) (setting .nets) (l .work) (l .sheet) = rw e at (l .inv .3) in
     record {
-      sheet = all-evaluated file (setting .nets) (setting .inputs) (g .accepted) (setting .hops) _ done;
+      long = done .long;
+      at = all-evaluated file (setting .nets) (setting .inputs) (g .accepted) (setting .hops) _ done;
       most = λ t h. omega (arith, done .most t h, g .accepted .few-nets);
       settled = l .inv .4 ∙ ap (λ n. maxBelow n (netSettling file)) (e ∙ sym (g .accepted .net-count)) ∙ settling-is file;
       soon = l .inv .5;

@@ -19,20 +19,20 @@ abbrev μ-loop : tie.MeasureT-loop
 loop-holds : tie.Need-loop-holds Inv-loop μ-loop
 loop-holds c = (omega arith, rewritten-none _ _ _)
 
-mul-max-u32 : tie.Need-mul-max-u32 Inv-loop μ-loop
-mul-max-u32 c = search needs
+mul-max-u64 : tie.Need-mul-max-u64 Inv-loop μ-loop
+mul-max-u64 c = search needs
 
-slice-read-max-u32 : tie.Need-slice-read-max-u32 Inv-loop μ-loop
-slice-read-max-u32 c = omega (arith, c .before .before .loop .inv .1 .long)
+slice-read-max-u64 : tie.Need-slice-read-max-u64 Inv-loop μ-loop
+slice-read-max-u64 c = omega (arith, c .before .before .loop .inv .1 .long)
 
-mul-max-u32-2 : tie.Need-mul-max-u32-2 Inv-loop μ-loop
-mul-max-u32-2 c = search needs
+mul-max-u64-2 : tie.Need-mul-max-u64-2 Inv-loop μ-loop
+mul-max-u64-2 c = search needs
 
-shared-slice-read-max-u32 : tie.Need-shared-slice-read-max-u32 Inv-loop μ-loop
-shared-slice-read-max-u32 c = search needs
+shared-slice-read-max-u64 : tie.Need-shared-slice-read-max-u64 Inv-loop μ-loop
+shared-slice-read-max-u64 c = search needs
 
-max-u32-requires : tie.Need-max-u32-requires Inv-loop μ-loop
-max-u32-requires c κs = search needs
+max-u64-requires : tie.Need-max-u64-requires Inv-loop μ-loop
+max-u64-requires c κs = search needs
 
 mul-sheet : tie.Need-mul-sheet Inv-loop μ-loop
 mul-sheet c = search needs
@@ -50,7 +50,7 @@ loop-again : tie.Need-loop-again Inv-loop μ-loop
 loop-again c =
     let loop = c .before .before .before .before .loop in
     let start = c .before .before .before .before .before .before .before in
-    (omega arith, raised-next (start .args .sheet .now) (start .args .other .now) (loop .sheet) (loop .i) (omega arith) (c .max-u32 .ensures) (loop .inv .1))
+    (omega arith, raised-next (start .args .sheet .now) (start .args .other .now) (loop .sheet) (loop .i) (omega arith) (c .max-u64 .ensures) (loop .inv .1))
 
 same-length : tie.Need-same-length Inv-loop μ-loop
 same-length c = c .before .loop .inv .1 .long
@@ -65,11 +65,11 @@ raise-spec =
     Inv-loop
     μ-loop
     loop-holds
-    mul-max-u32
-    slice-read-max-u32
-    mul-max-u32-2
-    shared-slice-read-max-u32
-    max-u32-requires
+    mul-max-u64
+    slice-read-max-u64
+    mul-max-u64-2
+    shared-slice-read-max-u64
+    max-u64-requires
     mul-sheet
     slice-write-sheet
     add-i
