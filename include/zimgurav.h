@@ -45,13 +45,14 @@ extern "C" {
 
 /* The version of the calls. It goes up with every change of what a call takes, answers or writes: two builds of one
  * version give the same answers, sheets, patterns, stores and records. */
-#define ZIMGURAV_VERSION 4
+#define ZIMGURAV_VERSION 5
 
 /* The version of the linked library, which has to be ZIMGURAV_VERSION. */
 uint64_t zimgurav_version(void);
 
-/* A word of a sheet: a current in microamperes. */
-typedef uint32_t zimgurav_word;
+/* A word of a sheet: a current in microamperes. The pulses of a gate add up, and so do the gates of a contact, so that
+ * it can be above 32 bits. */
+typedef uint64_t zimgurav_word;
 
 #define ZIMGURAV_RECORD_BYTES 20     /* bytes of a record of a block file */
 #define ZIMGURAV_BLOCK_BYTES 20480   /* least bytes of a record buffer: the records of the largest block */
@@ -165,7 +166,8 @@ void zimgurav_read(
     const uint8_t *file, size_t file_length, /* the block file */
     uint64_t answer[ZIMGURAV_ANSWER_NUMBERS]);
 
-/* Writes a ceiling on the current of each contact at each tick into the sheet. Refusals 1 to 12 and 15.
+/* Writes a ceiling on the current of each contact at each tick into the sheet. Refusals 1 to 12 and 15. A gate has a
+ * pulse for each tick at which it may switch, that of the greater peak where both edges may be; its pulses add up.
  * Accepted: answer[1] drop in nanovolts, answer[2] the quiet tick: the last tick at which some row of the sheet is not
  * 0, and 0 where the whole sheet is 0.
  */
@@ -177,7 +179,8 @@ void zimgurav_envelope(
     uint8_t *work, size_t work_length,          /* at least ZIMGURAV_WORK_BYTES; means nothing after an accepted call */
     uint64_t answer[ZIMGURAV_ANSWER_NUMBERS]);
 
-/* Writes the current of each contact at each tick under one pattern into the sheet. Refusals 1 to 10, 12, 15 and 16.
+/* Writes the current of each contact at each tick under one pattern into the sheet. Refusals 1 to 10, 12, 15 and 16. A
+ * gate has a pulse for each tick at which it switches; its pulses add up.
  * Accepted: answer[1] drop in nanovolts, answer[2] the quiet tick: the last tick at which some row of the sheet is not
  * 0, and 0 where the whole sheet is 0.
  *

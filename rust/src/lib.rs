@@ -122,7 +122,8 @@ pub fn read(file: &[u8]) -> Result<Counts, Refusal> {
 }
 
 /// Writes a ceiling on the current of each contact at each tick into the sheet: refusals 1 to 12
-/// and 15.
+/// and 15. A gate has a pulse for each tick at which it may switch, that of the greater peak where
+/// both edges may be; its pulses add up.
 ///
 /// - `hop_limit`: the most runs of ticks that a gate's sets keep for an excitation, 1 to
 ///   [`MOST_HOPS`].
@@ -160,7 +161,7 @@ pub fn envelope(
 }
 
 /// Writes the current of each contact at each tick under one pattern into the sheet: refusals 1 to
-/// 10, 12, 15 and 16.
+/// 10, 12, 15 and 16. A gate has a pulse for each tick at which it switches; its pulses add up.
 ///
 /// - `table`, `sheet`, `work`: as for [`envelope`].
 /// - `pattern`: [`PATTERN_BYTES`], one for each input net, as [`excitation`] names them; those past

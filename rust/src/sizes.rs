@@ -5,10 +5,11 @@
 /// It goes up with every change of what a call takes, answers or writes: two builds of one version
 /// give the same answers, sheets, patterns, stores and records. [`version`](crate::version) is that of
 /// the linked library, which has to be this one.
-pub const VERSION: u64 = 4;
+pub const VERSION: u64 = 5;
 
-/// A word of a sheet: a current in microamperes.
-pub type Word = u32;
+/// A word of a sheet: a current in microamperes. The pulses of a gate add up, and so do the gates of
+/// a contact, so that it can be above 32 bits.
+pub type Word = u64;
 
 /// The bytes of a record of a block file.
 pub const RECORD_BYTES: usize = 20;

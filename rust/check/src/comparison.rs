@@ -212,7 +212,7 @@ mod tests {
     fn reports_a_buffer_left_or_changed() {
         let mut arguments = Arguments::new(&block_s());
         let sheet = said(SHEET_UNTOUCHED, Implementation::simulate, &arguments);
-        assert!(sheet.ends_with("differ: sheet at 0: 4008636142, 0"));
+        assert!(sheet.ends_with("differ: sheet at 0: 17216961135462248174, 0"));
         let last = arguments.store.len() - 1;
         let store = said(STORE_CLEARED, Implementation::search, &arguments);
         assert!(store.ends_with(&format!("differ: case store at {last}: 0, 238")));

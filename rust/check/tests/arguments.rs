@@ -164,10 +164,12 @@ mod edges {
     #[test]
     fn sheet() {
         let (row, all) = (ROW_TICKS, SHEET_WORDS);
+        // As many bytes as 8,192 words of 32 bits have are half the words.
         for length in [
             0,
             1,
             row,
+            all / 2,
             all - 1,
             all + 1,
             all + row,

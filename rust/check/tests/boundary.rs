@@ -247,7 +247,8 @@ mod reference {
     #[test]
     fn has_every_call() {
         let returned = after("void").into_iter().chain(after("uint64_t"));
-        let calls = returned.filter(|word| word.starts_with("zimgurav_"));
+        let calls =
+            returned.filter(|word| word.starts_with("zimgurav_") && *word != "zimgurav_word");
         let calls: Vec<String> = calls.collect();
         assert_eq!(calls.len(), 6, "{calls:?}");
         for call in calls {

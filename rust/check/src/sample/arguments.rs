@@ -7,7 +7,7 @@ use zimgurav::{
 };
 
 /// What a word of the sheet holds before a call.
-const UNUSED_WORD: Word = 0xeeee_eeee;
+const UNUSED_WORD: Word = 0xeeee_eeee_eeee_eeee;
 
 /// What a byte of the work buffer, of the case store and of the record buffer holds before a call.
 const UNUSED_BYTE: u8 = 0xee;
@@ -95,7 +95,7 @@ impl Arguments {
             buffer.resize(length, 0);
             buffer.fill_with(|| random.byte(0, 255));
         }
-        arguments.sheet.fill_with(|| random.bits() as Word);
+        arguments.sheet.fill_with(|| random.bits());
         arguments
     }
 
