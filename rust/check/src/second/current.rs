@@ -51,28 +51,55 @@ fn contact_currents<S: Signal>(records: &[Record], waveforms: &[Waveform<S>]) ->
     contacts
 }
 
-/// A gate's current is the greatest of its pulses at that tick.
+/// A simulated gate's current is the sum of its pulses; its envelope is the sum,
+/// over ticks 0 to 255, of the greater pulse that the set at that tick allows.
 ///
 /// Each tick at which a gate has hl or lh gives a pulse, P being the peak for
-/// that edge; an envelope takes every hl or lh pulse that the gate's sets allow.
-/// A pulse starts at the transition tick minus D.
+/// that edge. A pulse starts at the transition tick minus D.
 fn gate_current<S: Signal>(gate: &Record, waveform: &Waveform<S>) -> Row {
+    let pulse_lh = pulse(gate.peak_lh, gate.rise, gate.fall);
+    let pulse_hl = pulse(gate.peak_hl, gate.rise, gate.fall);
     let mut current = [0; ROW_TICKS];
-    for (edge, peak) in [
-        (Excitation::Hl, gate.peak_hl),
-        (Excitation::Lh, gate.peak_lh),
-    ] {
-        let pulse = pulse(peak, gate.rise, gate.fall);
-        for (tick, signal) in waveform.ticks.iter().enumerate() {
-            if signal.has(edge) {
-                let start = tick - usize::from(gate.delay);
-                for (k, &after_k_ticks) in pulse.iter().enumerate() {
-                    current[start + k] = after_k_ticks.max(current[start + k]);
-                }
-            }
+    for (tick, &signal) in waveform.ticks.iter().enumerate() {
+        let pulse = greater_pulse(signal, &pulse_lh, &pulse_hl);
+        for (k, after_k_ticks) in pulse.into_iter().enumerate() {
+            current[tick - usize::from(gate.delay) + k] += after_k_ticks;
         }
     }
     current
+}
+
+/// Whether two pulses of a gate draw current at the same tick.
+pub fn has_overlap<S: Signal>(gate: &Record, waveform: &Waveform<S>) -> bool {
+    let pulse_lh = pulse(gate.peak_lh, gate.rise, gate.fall);
+    let pulse_hl = pulse(gate.peak_hl, gate.rise, gate.fall);
+    let mut drawing = [false; ROW_TICKS];
+    for (tick, &signal) in waveform.ticks.iter().enumerate() {
+        let pulse = greater_pulse(signal, &pulse_lh, &pulse_hl);
+        for (k, after_k_ticks) in pulse.into_iter().enumerate() {
+            let at = tick - usize::from(gate.delay) + k;
+            if after_k_ticks != 0 && drawing[at] {
+                return true;
+            }
+            drawing[at] |= after_k_ticks != 0;
+        }
+    }
+    false
+}
+
+/// The greater, after each number of ticks, of the pulses that a gate with this
+/// signal may have: a tick that allows both edges has one pulse. Nothing where it
+/// allows none.
+fn greater_pulse<S: Signal>(signal: S, pulse_lh: &[Word], pulse_hl: &[Word]) -> Vec<Word> {
+    match (signal.has(Excitation::Lh), signal.has(Excitation::Hl)) {
+        (false, false) => Vec::new(),
+        (true, false) => pulse_lh.to_vec(),
+        (false, true) => pulse_hl.to_vec(),
+        (true, true) => {
+            let both = pulse_lh.iter().zip(pulse_hl);
+            both.map(|(&lh, &hl)| lh.max(hl)).collect()
+        }
+    }
 }
 
 /// A pulse, from its start until it is 0 for good: after k ticks it is P × k / r for
@@ -112,7 +139,7 @@ fn drop(contacts: &[Row], table: &[u16]) -> u64 {
         for tick in 0..ROW_TICKS {
             let mut sum = 0;
             for (&resistance, contact) in node.iter().zip(contacts) {
-                sum += u64::from(resistance) * u64::from(contact[tick]);
+                sum += u64::from(resistance) * contact[tick];
             }
             greatest = greatest.max(sum);
         }
@@ -137,6 +164,9 @@ pub fn quiet_tick(sheet: &[Word]) -> u64 {
 #[cfg(test)]
 mod tests {
     use super::*;
+    use crate::sample::{drawing, gate};
+    use crate::second::excitation::UncertaintySet;
+    use zimgurav::kind::BUF;
 
     /// P 31, r 2, f 2: 15.5 becomes 16.
     #[test]
@@ -190,6 +220,109 @@ mod tests {
         }
         // An even divisor has a half for one of as many numbers in a row: 2 has 200, 4 has 100.
         assert_eq!(halves, 200 + 100 + 67 + 50 + 40 + 33 + 29 + 25);
+    }
+
+    /// The current of a gate with this delay, rise, fall, peak for lh and peak for hl, which has
+    /// these signals at these ticks and `held` at all others.
+    fn current_of<S: Signal>(
+        [delay, rise, fall]: [u8; 3],
+        peaks: [u16; 2],
+        held: S,
+        signals: &[(usize, S)],
+    ) -> Row {
+        let record = drawing(gate(BUF, &[0]), [0, delay, rise, fall], peaks);
+        let mut waveform = Waveform::of_input(held);
+        for &(tick, signal) in signals {
+            waveform.ticks[tick] = signal;
+        }
+        gate_current(&Record::parse(&record), &waveform)
+    }
+
+    /// The row that begins like this and is 0 after it.
+    fn row(beginning: &[Word]) -> Row {
+        let mut row = [0; ROW_TICKS];
+        row[..beginning.len()].copy_from_slice(beginning);
+        row
+    }
+
+    /// Both inputs lh: net 3 falls at tick 2 and rises at tick 3, so that its pulses are
+    /// 0, 16, 31, 16, 0 from tick 0 and 0, 15, 30, 15, 0 from tick 1.
+    #[test]
+    fn simulated_pulses_of_block_f_add() {
+        let signals = [(2, Excitation::Hl), (3, Excitation::Lh)];
+        let current = current_of([2, 2, 2], [30, 31], Excitation::H, &signals);
+        assert_eq!(current, row(&[0, 16, 31 + 15, 16 + 30, 15]));
+    }
+
+    /// Net 3 may have anything at ticks 2 and 3: the greater pulse is that of 31 at both.
+    #[test]
+    fn envelope_of_block_f_adds() {
+        let [held, any] = [3, 15].map(UncertaintySet::of_code);
+        let current = current_of([2, 2, 2], [30, 31], held, &[(2, any), (3, any)]);
+        assert_eq!(current, row(&[0, 16, 31 + 16, 16 + 31, 16]));
+    }
+
+    #[test]
+    fn tick_that_allows_both_edges_counts_once() {
+        let [held, both] = [0, 12].map(UncertaintySet::of_code);
+        for (peaks, greater) in [([30, 20], 30), ([20, 30], 30), ([30, 30], 30), ([0, 7], 7)] {
+            let current = current_of([1, 1, 1], peaks, held, &[(4, both)]);
+            assert_eq!(current, row(&[0, 0, 0, 0, greater]), "{peaks:?}");
+        }
+    }
+
+    /// Both edges have one rise and fall, and rounding is monotone: the greater pulse is that of the
+    /// greater peak, at each tick.
+    #[test]
+    fn greater_pulse_is_that_of_the_greater_peak() {
+        let both = UncertaintySet::of_code(12);
+        for (rise, fall) in [(1, 1), (2, 3), (7, 4), (127, 126)] {
+            for (lh, hl) in (0..40).flat_map(|lh| (0..40).map(move |hl| (lh, hl))) {
+                let [pulse_lh, pulse_hl] = [lh, hl].map(|peak| pulse(peak, rise, fall));
+                let greater = greater_pulse(both, &pulse_lh, &pulse_hl);
+                assert_eq!(greater, pulse(lh.max(hl), rise, fall));
+            }
+        }
+    }
+
+    /// A pulse with rise 2 and fall 3 draws for four ticks, one with a peak of 1 at the second and third of them alone.
+    #[test]
+    fn overlaps() {
+        let overlap = |peaks, later: usize| {
+            let record = drawing(gate(BUF, &[0]), [0, 1, 2, 3], peaks);
+            let mut waveform = Waveform::of_input(Excitation::H);
+            waveform.ticks[9] = Excitation::Hl;
+            waveform.ticks[9 + later] = Excitation::Lh;
+            has_overlap(&Record::parse(&record), &waveform)
+        };
+        assert_eq!(
+            [1, 2, 3, 4].map(|later| overlap([60, 60], later)),
+            [true, true, true, false]
+        );
+        assert_eq!(
+            [1, 2, 3, 4].map(|later| overlap([1, 1], later)),
+            [true, false, false, false]
+        );
+        assert!(!overlap([0, 60], 1));
+    }
+
+    /// All ticks from 1 to 255 give a pulse, from ticks 0 to 254 on. At tick t the pulse from tick 0
+    /// is t ticks old and the youngest has just started: the current is that of all ages up to t,
+    /// less those of the pulses that would have started before tick 0.
+    #[test]
+    fn pulses_of_every_tick_add() {
+        let lh = UncertaintySet::of_code(8);
+        let signals: Vec<(usize, UncertaintySet)> = (1..=255).map(|tick| (tick, lh)).collect();
+        let current = current_of([1, 127, 127], [65_535, 0], UncertaintySet::EMPTY, &signals);
+        let pulse = pulse(65_535, 127, 127);
+        for (tick, &sum) in current.iter().enumerate() {
+            let ages = 0..pulse.len();
+            let ages = ages.filter(|&age| age <= tick && tick - age <= 254);
+            assert_eq!(sum, ages.map(|age| pulse[age]).sum::<Word>(), "{tick}");
+        }
+        // The slopes up to but without the peak have 126 steps each, and the steps k and 127 - k have
+        // 65,535 together: 63 of them on each side, and the peak.
+        assert_eq!(current[253], (63 + 1 + 63) * 65_535);
     }
 
     /// The quiet tick of a sheet with a current of 1 at each of these contacts and ticks.

@@ -3,7 +3,7 @@
 
 use super::arguments::{check_hop_limit, check_sheet, check_table, check_work};
 use super::block::{records, Record};
-use super::current::write_currents;
+use super::current::{has_overlap, write_currents};
 use super::excitation::UncertaintySet;
 use super::fill::fill;
 use super::frame::Frame;
@@ -40,6 +40,14 @@ pub fn gates_filled(file: &[u8], hop_limit: u64) -> u64 {
         record.is_gate() && Waveform::of_gate(record, &filled).ticks != waveform.ticks
     });
     changed.count() as u64
+}
+
+/// Whether pulses of a gate overlap in the envelope of a valid block's file.
+pub fn envelope_overlaps(file: &[u8], hop_limit: u64) -> bool {
+    let records = records(file);
+    let filled = filled_waveforms(&records, &Frame::of_block(&records), hop_limit);
+    let mut nets = records.iter().zip(&filled);
+    nets.any(|(record, waveform)| record.is_gate() && has_overlap(record, waveform))
 }
 
 /// Writes the envelope of a frame into the sheet and returns its drop and quiet

@@ -1,5 +1,6 @@
 //! The second implementation of document 01 as the requests have changed it: with bench texts, exact quiet
-//! ticks and pulses rounded to the nearest. It is written from the paper alone and for obviousness.
+//! ticks, and pulses that are rounded to the nearest and add up. It is written from the paper alone and for
+//! obviousness.
 //!
 //! The proved library is tested against it, and timed beside it.
 
@@ -17,7 +18,7 @@ mod simulate;
 mod waveform;
 
 pub use bench::bench;
-pub use envelope::{envelope, gates_filled};
+pub use envelope::{envelope, envelope_overlaps, gates_filled};
 pub use read::read;
 pub use search::search;
-pub use simulate::simulate;
+pub use simulate::{simulate, simulation_overlaps};

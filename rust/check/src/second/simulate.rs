@@ -3,7 +3,7 @@
 
 use super::arguments::{check_pattern, check_pattern_length, check_sheet, check_table, check_work};
 use super::block::{records, Record};
-use super::current::write_currents;
+use super::current::{has_overlap, write_currents};
 use super::excitation::Excitation;
 use super::read::read;
 use super::waveform::Waveform;
@@ -27,6 +27,16 @@ pub fn simulate(
     let excitations = check_pattern(pattern, &records)?;
 
     Ok(write_simulation(&records, &excitations, table, sheet))
+}
+
+/// Whether pulses of a gate overlap in the simulation of a valid block's file with a
+/// pattern that its inputs allow.
+pub fn simulation_overlaps(file: &[u8], pattern: &[u8]) -> bool {
+    let records = records(file);
+    let excitations = check_pattern(pattern, &records).expect("an accepted pattern");
+    let waveforms = waveforms(&records, &excitations);
+    let mut nets = records.iter().zip(&waveforms);
+    nets.any(|(record, waveform)| record.is_gate() && has_overlap(record, waveform))
 }
 
 /// Writes the currents of the inputs' excitations into the sheet and returns
