@@ -1,12 +1,11 @@
-//! The vectors, through the library and the second implementation.
+//! The vectors, through the library and, by itself, through the second implementation.
 
 use std::fs;
 use std::path::{Path, PathBuf};
 
 use check::implementation::{Implementation, Operation, LIBRARY, SECOND};
 use check::sample::Arguments;
-use check::second;
-use zimgurav::{read, Counts, Currents, Found, Outcome, Refusal, Word};
+use zimgurav::{Counts, Currents, Found, Outcome, Refusal, Word};
 
 /// The operations on a block file.
 const OF_FILES: &[&str] = &["read", "envelope", "simulate", "search"];
@@ -38,8 +37,20 @@ impl<'a> Vector<'a> {
         }
     }
 
-    /// Calls Read in both implementations; `at` says which line it is.
-    fn run_read(&self, at: &str) {
+    /// Makes the call and compares all that it answers and leaves with the right answer; `at` says which line it is.
+    fn run(&self, implementation: &Implementation, at: &str) {
+        match self.operation {
+            "read" => self.run_read(implementation, at),
+            "envelope" => self.run_envelope(implementation, at),
+            "simulate" => self.run_simulate(implementation, at),
+            "search" => self.run_search(implementation, at),
+            "bench" => self.run_bench(implementation, at),
+            other => panic!("no operation is {other}, {at}"),
+        }
+    }
+
+    /// Calls Read.
+    fn run_read(&self, implementation: &Implementation, at: &str) {
         let [file] = self.arguments[..] else {
             panic!("read takes a file, {at}");
         };
@@ -50,17 +61,12 @@ impl<'a> Vector<'a> {
             }),
             _ => Err(self.refusal(at)),
         };
-        let file = bytes(file);
-        assert_eq!(read(&file), expected, "the library, {at}");
-        assert_eq!(
-            second::read(&file),
-            expected,
-            "the second implementation, {at}"
-        );
+        let answer = (implementation.read)(&bytes(file));
+        assert_eq!(answer, expected, "{}, {at}", implementation.name);
     }
 
-    /// Calls Envelope in both implementations.
-    fn run_envelope(&self, at: &str) {
+    /// Calls Envelope.
+    fn run_envelope(&self, implementation: &Implementation, at: &str) {
         let [file, hop_limit, table, sheet_length, work_length] = self.arguments[..] else {
             panic!("envelope takes five arguments, {at}");
         };
@@ -72,11 +78,11 @@ impl<'a> Vector<'a> {
             work: unused_bytes(work_length),
             ..Arguments::new(&[])
         };
-        self.run_currents(&arguments, Implementation::envelope, at);
+        self.run_currents(implementation, Implementation::envelope, &arguments, at);
     }
 
-    /// Calls Simulate in both implementations.
-    fn run_simulate(&self, at: &str) {
+    /// Calls Simulate.
+    fn run_simulate(&self, implementation: &Implementation, at: &str) {
         let [file, table, pattern, sheet_length, work_length] = self.arguments[..] else {
             panic!("simulate takes five arguments, {at}");
         };
@@ -88,12 +94,11 @@ impl<'a> Vector<'a> {
             work: unused_bytes(work_length),
             ..Arguments::new(&[])
         };
-        self.run_currents(&arguments, Implementation::simulate, at);
+        self.run_currents(implementation, Implementation::simulate, &arguments, at);
     }
 
-    /// Calls Search in both implementations and compares the answer, the pattern, the sheet and the
-    /// case store with the right answer. A refusal leaves everything as it was.
-    fn run_search(&self, at: &str) {
+    /// Calls Search.
+    fn run_search(&self, implementation: &Implementation, at: &str) {
         let [file, hop_limit, table, ratio, budget, sheet, pattern, work, store] =
             self.arguments[..]
         else {
@@ -111,56 +116,61 @@ impl<'a> Vector<'a> {
             store: unused_bytes(store),
             ..Arguments::new(&[])
         };
-        for implementation in [LIBRARY, SECOND] {
-            let name = implementation.name;
-            let mut lent = arguments.clone();
-            let answer = implementation.search(&mut lent);
-            if let [word, upper, lower, splits, cases, quiet, pattern, sheet, store] =
-                self.answer[..]
-            {
-                let expected = Found {
-                    outcome: outcome(word),
-                    upper: decimal(upper),
-                    lower: decimal(lower),
-                    splits: decimal(splits),
-                    cases: decimal(cases),
-                    quiet: decimal(quiet),
-                };
-                assert_eq!(answer, Ok(expected), "{name}, {at}");
-                assert_eq!(lent.pattern, bytes(pattern), "{name}'s pattern, {at}");
-                assert_eq!(sheet_hash(&lent.sheet), sheet, "{name}'s sheet, {at}");
-                assert_eq!(hash(lent.store), store, "{name}'s store, {at}");
-            } else {
-                assert_eq!(answer, Err(self.refusal(at)), "{name}, {at}");
-                assert!(lent == arguments, "{name} changed a buffer, {at}");
-            }
+        let mut lent = arguments.clone();
+        match implementation.search(&mut lent) {
+            Ok(found) => self.check_search(found, &lent, &format!("{}, {at}", implementation.name)),
+            Err(refusal) => self.check_refusal(implementation, refusal, &arguments, &lent, at),
         }
     }
 
-    /// Makes a call in both implementations and compares the answer and the sheet with the right
-    /// answer. A refusal leaves everything as it was.
-    fn run_currents(&self, arguments: &Arguments, call: Operation<Currents>, at: &str) {
-        for implementation in [LIBRARY, SECOND] {
-            let name = implementation.name;
-            let mut lent = arguments.clone();
-            let answer = call(&implementation, &mut lent);
-            if let ["ok", drop, quiet, hash] = self.answer[..] {
+    /// Compares the answer of an accepted search, the pattern, the sheet and the case store with the right answer.
+    fn check_search(&self, found: Found, lent: &Arguments, at: &str) {
+        let [word, upper, lower, splits, cases, quiet, pattern, sheet, store] = self.answer[..]
+        else {
+            panic!("accepted, {at}");
+        };
+        let expected = Found {
+            outcome: outcome(word),
+            upper: decimal(upper),
+            lower: decimal(lower),
+            splits: decimal(splits),
+            cases: decimal(cases),
+            quiet: decimal(quiet),
+        };
+        assert_eq!(found, expected, "{at}");
+        assert_eq!(lent.pattern, bytes(pattern), "the pattern, {at}");
+        assert_eq!(sheet_hash(&lent.sheet), sheet, "the sheet, {at}");
+        assert_eq!(hash(lent.store.iter().copied()), store, "the store, {at}");
+    }
+
+    /// Makes a call and compares the answer and the sheet with the right answer.
+    fn run_currents(
+        &self,
+        implementation: &Implementation,
+        call: Operation<Currents>,
+        arguments: &Arguments,
+        at: &str,
+    ) {
+        let name = implementation.name;
+        let mut lent = arguments.clone();
+        match call(implementation, &mut lent) {
+            Ok(currents) => {
+                let ["ok", drop, quiet, hash] = self.answer[..] else {
+                    panic!("{name} accepts, {at}");
+                };
                 let expected = Currents {
                     drop: decimal(drop),
                     quiet: decimal(quiet),
                 };
-                assert_eq!(answer, Ok(expected), "{name}, {at}");
+                assert_eq!(currents, expected, "{name}, {at}");
                 assert_eq!(sheet_hash(&lent.sheet), hash, "{name}'s sheet, {at}");
-            } else {
-                assert_eq!(answer, Err(self.refusal(at)), "{name}, {at}");
-                assert!(lent == *arguments, "{name} changed a buffer, {at}");
             }
+            Err(refusal) => self.check_refusal(implementation, refusal, arguments, &lent, at),
         }
     }
 
-    /// Calls Bench in both implementations and compares the count and the record buffer with the right
-    /// answer. A refusal leaves everything as it was.
-    fn run_bench(&self, at: &str) {
+    /// Calls Bench and compares the count and the record buffer with the right answer.
+    fn run_bench(&self, implementation: &Implementation, at: &str) {
         let [text, list, records_length] = self.arguments[..] else {
             panic!("bench takes three arguments, {at}");
         };
@@ -170,18 +180,32 @@ impl<'a> Vector<'a> {
             records: unused_bytes(records_length),
             ..Arguments::new(&[])
         };
-        for implementation in [LIBRARY, SECOND] {
-            let name = implementation.name;
-            let mut lent = arguments.clone();
-            let answer = implementation.bench(&mut lent);
-            if let ["ok", count, records] = self.answer[..] {
-                assert_eq!(answer, Ok(decimal(count)), "{name}, {at}");
+        let name = implementation.name;
+        let mut lent = arguments.clone();
+        match implementation.bench(&mut lent) {
+            Ok(number) => {
+                let ["ok", count, records] = self.answer[..] else {
+                    panic!("{name} accepts, {at}");
+                };
+                assert_eq!(number, decimal(count), "{name}, {at}");
                 assert_eq!(hash(lent.records), records, "{name}'s records, {at}");
-            } else {
-                assert_eq!(answer, Err(self.refusal(at)), "{name}, {at}");
-                assert!(lent == arguments, "{name} changed a buffer, {at}");
             }
+            Err(refusal) => self.check_refusal(implementation, refusal, &arguments, &lent, at),
         }
+    }
+
+    /// A refusal is the right answer, and leaves everything as it was.
+    fn check_refusal(
+        &self,
+        implementation: &Implementation,
+        refusal: Refusal,
+        before: &Arguments,
+        after: &Arguments,
+        at: &str,
+    ) {
+        let name = implementation.name;
+        assert_eq!(refusal, self.refusal(at), "{name}, {at}");
+        assert!(after == before, "{name} changed a buffer, {at}");
     }
 
     /// The refusal that is the right answer.
@@ -211,7 +235,7 @@ fn outcome(word: &str) -> Outcome {
 
 /// As many words as the decimal number says, each as it is before a call.
 fn unused_words(length: &str) -> Vec<Word> {
-    vec![0xeeee_eeee; decimal(length) as usize]
+    vec![0xeeee_eeee_eeee_eeee; decimal(length) as usize]
 }
 
 /// As many bytes as the decimal number says, each as it is before a call.
@@ -271,15 +295,15 @@ fn text(part: &str, name: &str) -> String {
     fs::read_to_string(folder(part).join(name)).expect("a vector file")
 }
 
-/// Makes an operation's calls of each file; the answer stands on the line that the call does.
-fn run(operation: &str, call: impl Fn(&Vector, &str)) {
+/// Makes an operation's calls of each file in an implementation; the answer stands on the line that the call does.
+fn run(implementation: &Implementation, operation: &str) {
     for (name, operations, times) in FILES {
         let (calls, answers) = (text("calls", name), text("answers", name));
         let mut made = 0;
         for (index, (line, answer)) in calls.lines().zip(answers.lines()).enumerate() {
             let vector = Vector::parse(line, answer);
             if vector.operation == operation {
-                call(&vector, &format!("line {} of {name}", index + 1));
+                vector.run(implementation, &format!("line {} of {name}", index + 1));
                 made += 1;
             }
         }
@@ -291,27 +315,57 @@ fn run(operation: &str, call: impl Fn(&Vector, &str)) {
 
 #[test]
 fn every_read_line() {
-    run("read", |vector, at| vector.run_read(at));
+    run(&LIBRARY, "read");
 }
 
 #[test]
 fn every_envelope_line() {
-    run("envelope", |vector, at| vector.run_envelope(at));
+    run(&LIBRARY, "envelope");
 }
 
 #[test]
 fn every_simulate_line() {
-    run("simulate", |vector, at| vector.run_simulate(at));
+    run(&LIBRARY, "simulate");
 }
 
 #[test]
 fn every_search_line() {
-    run("search", |vector, at| vector.run_search(at));
+    run(&LIBRARY, "search");
 }
 
 #[test]
 fn every_bench_line() {
-    run("bench", |vector, at| vector.run_bench(at));
+    run(&LIBRARY, "bench");
+}
+
+/// The second implementation, without a call of the library.
+mod second {
+    use super::*;
+
+    #[test]
+    fn every_read_line() {
+        run(&SECOND, "read");
+    }
+
+    #[test]
+    fn every_envelope_line() {
+        run(&SECOND, "envelope");
+    }
+
+    #[test]
+    fn every_simulate_line() {
+        run(&SECOND, "simulate");
+    }
+
+    #[test]
+    fn every_search_line() {
+        run(&SECOND, "search");
+    }
+
+    #[test]
+    fn every_bench_line() {
+        run(&SECOND, "bench");
+    }
 }
 
 /// Each call is of one of the file's operations, and has an answer.
