@@ -2,7 +2,7 @@
 
 use super::Random;
 use zimgurav::kind::{AND, BUF, INPUT, NAND, NOT, XOR};
-use zimgurav::RECORD_BYTES;
+use zimgurav::{MOST_NETS, RECORD_BYTES};
 
 /// The bytes of a net.
 pub type Record = [u8; RECORD_BYTES];
@@ -112,6 +112,47 @@ pub fn block_with_a_cap() -> Vec<Record> {
         peaks(gate(BUF, &[12]), [100, 0]),
         peaks(gate(NOT, &[12]), [100, 0]),
     ]
+}
+
+/// A block whose last net switches at each of so many ticks, 2 or more, where its one input switches: XORs, up to four
+/// nets at a time, of the input after delays of 0, 1, 2 and so on. No gate draws, and each has a delay of 1.
+///
+/// The last net's first transition is at the tick that has the number of XORs in a row: 4 for 65 to 256 ticks.
+pub fn switching_at(ticks: u16, allowed: u8) -> Vec<Record> {
+    let mut block = vec![input(allowed)];
+    for pin in 1..ticks {
+        block.push(silent(gate(BUF, &[pin - 1]), 1));
+    }
+    let mut nets: Vec<u16> = (0..ticks).collect();
+    while nets.len() > 1 {
+        let first = block.len() as u16;
+        for pins in nets.chunks(4) {
+            let kind = if pins.len() == 1 { BUF } else { XOR };
+            block.push(silent(gate(kind, pins), 1));
+        }
+        nets = (first..block.len() as u16).collect();
+    }
+    block
+}
+
+/// A full block of which 690 gates switch at each of 250 ticks in a row, mostly at one contact and with the greatest
+/// slopes and peak, so that words are above 32 bits.
+pub fn block_of_sums(random: &mut Random) -> Vec<Record> {
+    let mut block = switching_at(250, random.pick(&[8, 12, 15]));
+    let last = block.len() as u16 - 1;
+    let contacts = random.pick(&[1, 1, 1, 16]);
+    let slope = random.pick(&[127, 127, 127, 126]);
+    let peaks = random.pick(&[[65_535; 2], [65_535; 2], [65_535, 65_534], [65_000, 65_535]]);
+    while block.len() < MOST_NETS as usize {
+        let contact = (block.len() % contacts) as u8;
+        let kind = random.pick(&[BUF, NOT]);
+        block.push(drawing(
+            gate(kind, &[last]),
+            [contact, 1, slope, slope],
+            peaks,
+        ));
+    }
+    block
 }
 
 /// What a random block looks like.
@@ -240,5 +281,29 @@ mod tests {
         assert!(!gate_has_half([6, 3], [4, 2]));
         assert!(!gate_has_half([127, 127], [65_535, 65_534]));
         assert!(!has_half(&input(15)));
+    }
+
+    /// The input and 249 delays of it, 63 XORs of these, 16 of those, 4 and 1. The last net switches four ticks after
+    /// the net that it follows: the last of the delays arrives at tick 249.
+    #[test]
+    fn nets_that_switch_at_250_ticks() {
+        let block = switching_at(250, 8);
+        assert_eq!(block.len(), 250 + 63 + 16 + 4 + 1);
+        let pins = |record: &Record| record[3];
+        assert_eq!(block[250..].iter().map(pins).max(), Some(4));
+        assert_eq!(block[250 + 62], silent(gate(XOR, &[248, 249]), 1));
+        assert_eq!(block[333], silent(gate(XOR, &[329, 330, 331, 332]), 1));
+    }
+
+    /// Five delays: four of them are joined, the fifth is passed on.
+    #[test]
+    fn a_net_that_is_left_over_is_passed_on() {
+        let block = switching_at(5, 15);
+        let joins = [
+            silent(gate(XOR, &[0, 1, 2, 3]), 1),
+            silent(gate(BUF, &[4]), 1),
+            silent(gate(XOR, &[5, 6]), 1),
+        ];
+        assert_eq!(block[5..], joins);
     }
 }

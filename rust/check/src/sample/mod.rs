@@ -12,8 +12,8 @@ mod text_damage;
 
 pub use arguments::{allowed, patterns, Arguments};
 pub use block::{
-    block_f, block_s, block_with_a_cap, block_with_gaps, drawing, gate, has_half, input,
-    lower_peaks, peaks, silent, Record, Shape,
+    block_f, block_of_sums, block_s, block_with_a_cap, block_with_gaps, drawing, gate, has_half,
+    input, lower_peaks, peaks, silent, switching_at, Record, Shape,
 };
 pub use damage::{damage, noise, spoil};
 pub use names::names;
