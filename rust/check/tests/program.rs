@@ -13,7 +13,9 @@ use std::thread;
 use std::time::{Duration, Instant};
 
 use check::implementation::SECOND;
-use check::sample::{damage, drawing, gate, input, peaks, Arguments, Random, Record, Shape};
+use check::sample::{
+    damage, drawing, gate, input, peaks, switching_at, Arguments, Random, Record, Shape,
+};
 use check::second;
 use zimgurav::excitation::{H, HL, L, LH};
 use zimgurav::kind::{AND, BUF, NOT};
@@ -132,10 +134,12 @@ mod examples {
         prints(BLOCK_S, "exact 10 10 1 4\nlh\n");
     }
 
+    /// With resistances of 1 the envelope drops 10 + 47 at tick 2, both lh 10 + 46. Of the children at net 0, lh drops
+    /// 56, and l and hl drop 31.
     #[test]
     fn block_f() {
         let file = include_bytes!("../../../examples/block_f.blk");
-        prints(file, "exact 41 41 0 1\nlh lh\n");
+        prints(file, "exact 56 56 1 4\nlh lh\n");
     }
 
     /// At tick 1 the first two gates have 15.5 and 16.5, and both are rounded to 16.
@@ -146,14 +150,23 @@ mod examples {
         prints(&block.concat(), "exact 82 82 0 1\nlh\n");
     }
 
+    /// Net 4 switches at ticks 1 to 4. Its pulses, from ticks 0 to 3 on, are 0, 10, 20, 30, 40, 30, 20, 10: at tick 5
+    /// they have 30 + 40 + 30 + 20.
+    #[test]
+    fn sums() {
+        let mut block = switching_at(4, 15);
+        block[4] = drawing(block[4], [0, 1, 4, 4], [40, 40]);
+        prints(&block.concat(), "exact 120 120 0 1\nlh\n");
+    }
+
     #[test]
     fn adder24() {
         let file = include_bytes!("../../../examples/adder24.blk");
-        let first = format!("h h hl h{}", " lh".repeat(20));
-        let second = format!(" hl l l hl{}", " lh".repeat(20));
+        let first = format!("h h h{}", " lh".repeat(21));
+        let second = format!(" hl l hl{}", " lh".repeat(21));
         prints(
             file,
-            &format!("spent 7790 3996 200 601\n{first}{second} l\n"),
+            &format!("spent 11617 3889 200 601\n{first}{second} l\n"),
         );
     }
 
@@ -175,7 +188,7 @@ mod examples {
 
     /// 255 gates that draw 65,535 each.
     #[test]
-    fn as_great_a_drop_as_there_can_be() {
+    fn as_many_gates_as_there_can_be() {
         let mut block = vec![peaks(gate(BUF, &[0]), [65_535, 0]); 256];
         block[0] = input(15);
         prints(&block.concat(), "exact 16711425 16711425 0 1\nlh\n");
@@ -412,7 +425,7 @@ fn pieces() {
     };
     let file = include_bytes!("../../../examples/block_f.blk");
     for length in [1, 7, 20, 79] {
-        assert_eq!(in_pieces(file, length), "exact 41 41 0 1\nlh lh\n");
+        assert_eq!(in_pieces(file, length), "exact 56 56 1 4\nlh lh\n");
     }
     for length in [999, MOST_BYTES - 1] {
         assert_eq!(in_pieces(&fan(256), length), "exact 0 0 0 1\nlh\n");

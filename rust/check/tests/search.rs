@@ -2,13 +2,16 @@
 //! answers and buffers are written from document 01 and the requests that change it, and both the library and
 //! the second implementation must give them.
 
+use std::ops::Range;
+
 use check::agreement::Searched;
 use check::implementation::{Implementation, LIBRARY, SECOND};
 use check::sample::{
-    self, drawing, gate, input, patterns, peaks, silent, Arguments, Random, Record, Shape,
+    self, drawing, gate, input, patterns, peaks, silent, switching_at, Arguments, Random, Record,
+    Shape,
 };
 use zimgurav::excitation::{H, HL, L, LH};
-use zimgurav::kind::{AND, BUF, INPUT, NAND, NOT, OR, XOR};
+use zimgurav::kind::{AND, BUF, INPUT, NAND, NOR, NOT, OR, XOR};
 use zimgurav::{Currents, Found, Outcome, Word, ROW_TICKS};
 
 /// The cases in a store: the sets of each one's inputs, and its upper number.
@@ -189,7 +192,7 @@ mod block_s {
                 quiet,
                 pattern: &[probe],
                 cases: &[(&[set], drop)],
-                sheet: &[0, drop as Word],
+                sheet: &[0, drop],
             };
             finds(&Arguments::new(&block), &expected);
         }
@@ -231,34 +234,125 @@ mod block_f {
         arguments
     }
 
-    /// The pattern lh, lh drops as much as the envelope: with resistances 2 and 1 at tick 1, where contact 1 has 15.5
-    /// rounded to 16, and with 1 and 1 at tick 2. The sheet is the envelope's, with or without resistances, and so is
-    /// the quiet tick.
-    #[test]
-    fn is_exact_without_a_split() {
-        let mut sheet = [0; 512 + 5];
+    /// The sheet with these currents from tick 0 on at contact 1. Contact 0 has 0, 20, 10.
+    fn sheet(of_contact_1: [Word; 5]) -> [Word; ROW_TICKS + 5] {
+        let mut sheet = [0; ROW_TICKS + 5];
         sheet[..3].copy_from_slice(&[0, 20, 10]);
-        sheet[512..].copy_from_slice(&[0, 16, 31, 31, 16]);
-        for (resistances, drop) in [([2, 1], 56), ([1, 1], 41), ([0, 0], 0)] {
-            for hop_limit in 1..=16 {
-                let arguments = Arguments {
-                    hop_limit,
-                    ..arguments(resistances)
-                };
-                let expected = Expected {
-                    outcome: Outcome::Exact,
-                    upper: drop,
-                    lower: drop,
-                    splits: 0,
-                    quiet: 4,
-                    pattern: &[LH, LH],
-                    cases: &[(&[15, 15], drop)],
-                    sheet: &sheet,
-                };
-                finds(&arguments, &expected);
-                finds(&arguments.with_budget(0), &expected);
-            }
+        sheet[ROW_TICKS..].copy_from_slice(&of_contact_1);
+        sheet
+    }
+
+    /// The envelope of contact 1: pulses of 31 from ticks 0 and 1 on.
+    const ENVELOPE: [Word; 5] = [0, 16, 31 + 16, 16 + 31, 16];
+
+    /// Resistances of contacts 0 and 1, and the envelope's drop, which is that at tick 2: 10 of contact 0 and 47 of contact
+    /// 1. The pattern lh, lh, which is the first probe, has 10 and 46 there, and drops one less.
+    const DROPS: [([u16; 2], u64); 2] = [([2, 1], 67), ([1, 1], 57)];
+
+    /// Checks the search with all hop limits.
+    #[track_caller]
+    fn finds_with_all_hops(arguments: &Arguments, expected: &Expected) {
+        for hop_limit in 1..=16 {
+            let arguments = Arguments {
+                hop_limit,
+                ..arguments.clone()
+            };
+            finds(&arguments, expected);
         }
+    }
+
+    /// What a search without a split finds that is not exact.
+    fn without_a_split<'a>(
+        outcome: Outcome,
+        cases: &'a [(&'a [u8], u64); 1],
+        sheet: &'a [Word],
+    ) -> Expected<'a> {
+        let [(_, upper)] = *cases;
+        Expected {
+            outcome,
+            upper,
+            lower: upper - 1,
+            splits: 0,
+            quiet: 4,
+            pattern: &[LH, LH],
+            cases,
+            sheet,
+        }
+    }
+
+    #[test]
+    fn is_spent_without_a_budget() {
+        for (resistances, drop) in DROPS {
+            let (cases, sheet) = ([(&[15, 15][..], drop)], sheet(ENVELOPE));
+            let expected = without_a_split(Outcome::Spent, &cases, &sheet);
+            finds_with_all_hops(&arguments(resistances).with_budget(0), &expected);
+        }
+    }
+
+    /// 67,000 is above 66 * 1,015 and at most 66 * 1,016; 57,000 is above 56 * 1,017 and at most 56 * 1,018.
+    #[test]
+    fn is_within_without_a_split() {
+        for ((resistances, drop), ratio) in DROPS.into_iter().zip([1_016, 1_018]) {
+            let (cases, sheet) = ([(&[15, 15][..], drop)], sheet(ENVELOPE));
+            let within = without_a_split(Outcome::Within, &cases, &sheet);
+            let mut arguments = arguments(resistances);
+            arguments.ratio = ratio;
+            finds(&arguments, &within);
+            arguments = arguments.with_budget(0);
+            finds(&arguments, &within);
+            arguments.ratio = ratio - 1;
+            let spent = without_a_split(Outcome::Spent, &cases, &sheet);
+            finds(&arguments, &spent);
+        }
+    }
+
+    /// Net 0 has both gates in its cone, net 1 has one. Where net 0 is
+    ///
+    /// - l, net 2 has h, and net 3 may switch at tick 2 alone: 0, 16, 31, 16 at contact 1;
+    /// - h, net 2 has l and net 3 has h: nothing;
+    /// - hl, net 2 rises at tick 1 and net 3 may fall at tick 3: 0, 10, 5 at contact 0 and 0, 0, 16, 31, 16 at contact 1;
+    /// - lh, net 2 falls at tick 1, net 3 may have both edges at tick 2 and rise at tick 3: 0, 20, 10 at contact 0, and
+    ///   at contact 1 0, 16, 31, 16 and from tick 1 on 0, 15, 30, 15, so that it drops as much as the pattern lh, lh.
+    #[test]
+    fn is_exact_after_a_split() {
+        let sheet = sheet([0, 16, 31 + 15, 16 + 30, 16]);
+        for (resistances, upper_of_the_frame) in DROPS {
+            let drop = upper_of_the_frame - 1;
+            let expected = Expected {
+                outcome: Outcome::Exact,
+                upper: drop,
+                lower: drop,
+                splits: 1,
+                quiet: 4,
+                pattern: &[LH, LH],
+                cases: &[
+                    (&[1, 15], 31),
+                    (&[2, 15], 0),
+                    (&[4, 15], 31),
+                    (&[8, 15], drop),
+                ],
+                sheet: &sheet,
+            };
+            finds_with_all_hops(&arguments(resistances), &expected);
+            finds_with_all_hops(&arguments(resistances).with_budget(1), &expected);
+        }
+    }
+
+    /// Nothing drops. The sheet is the envelope's, and so is the quiet tick.
+    #[test]
+    fn is_exact_without_a_split_where_no_resistance_is() {
+        let expected = Expected {
+            outcome: Outcome::Exact,
+            upper: 0,
+            lower: 0,
+            splits: 0,
+            quiet: 4,
+            pattern: &[LH, LH],
+            cases: &[(&[15, 15], 0)],
+            sheet: &sheet(ENVELOPE),
+        };
+        finds_with_all_hops(&arguments([0, 0]), &expected);
+        finds_with_all_hops(&arguments([0, 0]).with_budget(0), &expected);
     }
 }
 
@@ -676,6 +770,115 @@ mod bounds {
     }
 }
 
+/// Searches where pulses of a gate overlap.
+mod sums {
+    use super::*;
+
+    /// The currents of pulses of the greatest slopes and peak from each of these ticks on.
+    fn row_of(starts: Range<usize>) -> [Word; ROW_TICKS] {
+        // 65,535 is 516 * 127 + 3, and 3 * k / 127 is nearest to 1 from k 22 on, to 2 from 64 and to 3 from 106.
+        let more = |k| [22, 64, 106].iter().filter(|&&from| from <= k).count() as Word;
+        let steps = (0..=127).chain((0..127).rev());
+        let pulse: Vec<Word> = steps.map(|k| 516 * k + more(k)).collect();
+        let mut row = [0; ROW_TICKS];
+        for start in starts {
+            for (current, value) in row[start..].iter_mut().zip(&pulse) {
+                *current += value;
+            }
+        }
+        row
+    }
+
+    /// A full block: a net that switches at ticks 4 to 253 where its input switches, and 345 BUF and 345 NOT of it, which
+    /// draw where they rise. Each of these may rise at ticks 5 to 254, but the BUF rise at one tick and the NOT at the next.
+    fn rising_in_turn() -> Arguments {
+        let mut block = switching_at(250, 12);
+        let last = block.len() as u16 - 1;
+        for kind in [BUF, NOT] {
+            let rising = drawing(gate(kind, &[last]), [0, 1, 127, 127], [65_535, 0]);
+            block.extend([rising; 345]);
+        }
+        assert_eq!(block.len(), 1024);
+        Arguments {
+            table: vec![65_535; 256],
+            ..Arguments::new(&block)
+        }
+    }
+
+    /// The currents of the envelope are above 32 bits, and U is twice L. A split decides the input.
+    #[test]
+    fn at_their_greatest() {
+        let run = row_of(4..254);
+        let (ceiling, row) = (run.map(|sum| 690 * sum), run.map(|sum| 345 * sum));
+        let lower = 65_535 * row.iter().max().expect("512 ticks");
+        assert!(ceiling.iter().any(|&current| current > 1 << 32));
+        let spent = Expected {
+            outcome: Outcome::Spent,
+            upper: 2 * lower,
+            lower,
+            splits: 0,
+            quiet: 253 + 253,
+            pattern: &[LH],
+            cases: &[(&[12], 2 * lower)],
+            sheet: &ceiling,
+        };
+        let at_ratio = |ratio| Arguments {
+            ratio,
+            ..rising_in_turn().with_budget(0)
+        };
+        finds(&at_ratio(1_999), &spent);
+        let within = Expected {
+            outcome: Outcome::Within,
+            ..spent
+        };
+        finds(&at_ratio(2_000), &within);
+        finds(&at_ratio(10_000), &within);
+        let exact = Expected {
+            outcome: Outcome::Exact,
+            upper: lower,
+            splits: 1,
+            cases: &[(&[4], lower), (&[8], lower)],
+            sheet: &row,
+            ..within
+        };
+        finds(&rising_in_turn(), &exact);
+    }
+
+    /// Net 1 has one pulse of 40 where the input rises. Net 3 has two of 30 where the input falls, as net 2 rises a tick
+    /// later: 0, 15, 30, 15 from ticks 0 and 1 on. The greatest of them would be below net 1's, their sum of 45 is above.
+    #[test]
+    fn hand_over_the_pattern_with_the_greater_sum() {
+        let block = [
+            input(12),
+            drawing(gate(BUF, &[0]), [0, 1, 2, 2], [40, 0]),
+            silent(gate(NOT, &[0]), 1),
+            drawing(gate(NOR, &[0, 2]), [0, 1, 2, 2], [30, 30]),
+        ];
+        let spent = Expected {
+            outcome: Outcome::Spent,
+            upper: 40 + 45,
+            lower: 40,
+            splits: 0,
+            quiet: 4,
+            pattern: &[LH],
+            cases: &[(&[12], 40 + 45)],
+            sheet: &[0, 20 + 15, 40 + 45, 20 + 45, 15],
+        };
+        finds(&Arguments::new(&block).with_budget(0), &spent);
+        let exact = Expected {
+            outcome: Outcome::Exact,
+            upper: 45,
+            lower: 45,
+            splits: 1,
+            pattern: &[HL],
+            cases: &[(&[4], 45), (&[8], 40)],
+            sheet: &[0, 20, 45, 45, 15],
+            ..spent
+        };
+        finds(&Arguments::new(&block), &exact);
+    }
+}
+
 /// The last tick at which the sheet that the search leaves is not 0.
 mod quiet_ticks {
     use super::*;
@@ -859,7 +1062,7 @@ mod buffers {
             let cases = 72 * found.cases as usize;
             for more in [0, 1, 72, 1 << 16] {
                 let mut dirty = arguments.clone();
-                dirty.sheet.fill_with(|| random.bits() as Word);
+                dirty.sheet.fill_with(|| random.bits());
                 dirty.work.resize(160 * block.len() + more, 0);
                 dirty.store.resize(clean.store.len() + more, 0);
                 for buffer in [&mut dirty.pattern, &mut dirty.work, &mut dirty.store] {
