@@ -3,14 +3,15 @@
 
 use std::fmt::Debug;
 
-use check::comparison;
+use check::comparison::{self, Compared};
 use check::implementation::{Implementation, Operation, LIBRARY, SECOND};
 use check::measure::full_blocks;
 use check::sample::{
-    damage, has_half, lend_random_text, lower_peaks, noise, spoil, Arguments, Random, Record, Shape,
+    block_of_sums, damage, has_half, lend_random_text, lower_peaks, noise, spoil, Arguments,
+    Random, Record, Shape,
 };
 use check::second;
-use zimgurav::{read, Counts, Outcome, Refusal, RECORD_BYTES};
+use zimgurav::{read, Counts, Currents, Outcome, Refusal, Word, RECORD_BYTES};
 
 const FILES: usize = 240_000;
 
@@ -19,6 +20,9 @@ const CALLS: usize = 4_000;
 
 /// How many calls of Search there are.
 const SEARCHES: usize = 2_000;
+
+/// How many full blocks with words above 32 bits there are.
+const SUMS: usize = 40;
 
 /// How many calls of Bench there are.
 const TEXTS: usize = 40_000;
@@ -118,15 +122,24 @@ fn random_arguments(random: &mut Random) -> Arguments {
 }
 
 /// Makes a call in both implementations, which have to agree.
+fn agreed<Answer: Copy + Debug + PartialEq>(
+    call: Operation<Answer>,
+    arguments: &Arguments,
+    turn: usize,
+) -> Compared<Answer> {
+    match comparison::compare(&[LIBRARY, SECOND], call, arguments) {
+        Ok(compared) => compared,
+        Err(difference) => panic!("call {turn}: {difference}"),
+    }
+}
+
+/// The answer to a call, on which both implementations have to agree.
 fn compare<Answer: Copy + Debug + PartialEq>(
     call: Operation<Answer>,
     arguments: &Arguments,
     turn: usize,
 ) -> Result<Answer, Refusal> {
-    match comparison::compare(&[LIBRARY, SECOND], call, arguments) {
-        Ok(compared) => compared.answer,
-        Err(difference) => panic!("call {turn}: {difference}"),
-    }
+    agreed(call, arguments, turn).answer
 }
 
 /// Counts the accepted calls and the refusals by their numbers.
@@ -139,11 +152,15 @@ fn count<Answer>(reached: &mut [usize; 19], answer: Result<Answer, Refusal>) {
 fn random_envelopes() {
     let mut random = Random::new(2);
     let mut reached = [0; 19];
-    let mut hops_mattered = 0;
+    let (mut hops_mattered, mut overlaps) = (0, 0);
     for turn in 0..CALLS {
         let arguments = random_arguments(&mut random);
         let answer = compare(Implementation::envelope, &arguments, turn);
         count(&mut reached, answer);
+        if answer.is_ok() {
+            let overlap = second::envelope_overlaps(&arguments.file, arguments.hop_limit);
+            overlaps += usize::from(overlap);
+        }
         if answer.is_ok() && turn % 8 == 0 {
             let mut few = arguments.clone();
             let mut many = arguments.clone();
@@ -154,7 +171,8 @@ fn random_envelopes() {
         }
     }
     println!(
-        "accepted, then refusals 1 to 18: {reached:?}; hop limits mattered {hops_mattered} times"
+        "accepted, then refusals 1 to 18: {reached:?}; hop limits mattered {hops_mattered} times; \
+         pulses overlap in {overlaps} blocks"
     );
     for number in [0, 11, 12, 15] {
         assert!(reached[number] >= 20, "reached too seldom: {reached:?}");
@@ -163,6 +181,7 @@ fn random_envelopes() {
         hops_mattered >= 50,
         "hop limits mattered {hops_mattered} times"
     );
+    assert!(overlaps >= 1_000, "pulses overlap in {overlaps} blocks");
 }
 
 /// The arguments with the greatest peak in place of every other above 0, so that no pulse is rounded to 0.
@@ -182,13 +201,17 @@ fn with_the_greatest_peaks(arguments: &Arguments) -> Arguments {
 fn random_simulations() {
     let mut random = Random::new(3);
     let mut reached = [0; 19];
-    let (mut rounding_mattered, mut with_halves) = (0, 0);
+    let (mut rounding_mattered, mut with_halves, mut overlaps) = (0, 0, 0);
     for turn in 0..CALLS {
         let arguments = random_arguments(&mut random);
         let answer = compare(Implementation::simulate, &arguments, turn);
         count(&mut reached, answer);
         let mut records = arguments.file.as_chunks().0.iter();
         with_halves += usize::from(answer.is_ok() && records.any(has_half));
+        if answer.is_ok() {
+            let overlap = second::simulation_overlaps(&arguments.file, &arguments.pattern);
+            overlaps += usize::from(overlap);
+        }
         if let (Ok(currents), 0) = (answer, turn % 8) {
             let mut greatest = with_the_greatest_peaks(&arguments);
             let later = SECOND.simulate(&mut greatest).expect("accepted").quiet;
@@ -198,7 +221,8 @@ fn random_simulations() {
     println!(
         "accepted, then refusals 1 to 18: {reached:?}; \
          a quiet tick is earlier by rounding {rounding_mattered} times; \
-         {with_halves} blocks have a pulse with an exact half"
+         {with_halves} blocks have a pulse with an exact half; \
+         pulses overlap in {overlaps} blocks"
     );
     for number in [0, 12, 15, 16] {
         assert!(reached[number] >= 20, "reached too seldom: {reached:?}");
@@ -211,6 +235,32 @@ fn random_simulations() {
         with_halves >= 1_000,
         "{with_halves} blocks have a pulse with an exact half"
     );
+    assert!(overlaps >= 500, "pulses overlap in {overlaps} blocks");
+}
+
+/// Full blocks with words above 32 bits, through all operations.
+#[test]
+fn random_sums() {
+    let mut random = Random::new(6);
+    let operations: [Operation<Currents>; 2] = [Implementation::envelope, Implementation::simulate];
+    let mut wide = [0; 3];
+    let mut count_wide = |operation: usize, arguments: &Arguments| {
+        let above = arguments
+            .sheet
+            .iter()
+            .any(|&word| word > Word::from(u32::MAX));
+        wide[operation] += usize::from(above);
+    };
+    for turn in 0..SUMS {
+        let block = block_of_sums(&mut random);
+        let arguments = Arguments::random_up_to(7, &mut random, &block);
+        for (place, call) in operations.into_iter().enumerate() {
+            count_wide(place, &agreed(call, &arguments, turn).after);
+        }
+        count_wide(2, &agreed(Implementation::search, &arguments, turn).after);
+    }
+    println!("words above 32 bits in envelopes, simulations, searches: {wide:?}");
+    assert!(wide.iter().all(|&times| times >= SUMS / 4), "{wide:?}");
 }
 
 /// A random block for Search: mostly small, since a search makes many evaluations.

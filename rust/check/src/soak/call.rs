@@ -1,8 +1,8 @@
 //! Random calls, each short enough for the second implementation.
 
 use crate::sample::{
-    block_with_a_cap, block_with_gaps, damage, lend_random_text, lower_peaks, noise, spoil,
-    Arguments, Random, Record, Shape,
+    block_of_sums, block_with_a_cap, block_with_gaps, damage, lend_random_text, lower_peaks, noise,
+    spoil, Arguments, Random, Record, Shape,
 };
 use zimgurav::kind::INPUT;
 use zimgurav::{store_bytes, MOST_BUDGET, RECORD_BYTES};
@@ -43,6 +43,9 @@ pub fn random_call(random: &mut Random) -> Arguments {
 
 /// A random valid block, or one with too many records.
 fn random_block(random: &mut Random) -> Vec<Record> {
+    if random.below(128) == 0 {
+        return block_of_sums(random);
+    }
     match random.below(32) {
         0 => almost_with_a_cap(random),
         1..8 => block_with_gaps(random),

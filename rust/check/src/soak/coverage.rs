@@ -5,7 +5,7 @@ use std::time::Duration;
 
 use crate::sample::{has_half, Arguments, KIND_WORDS};
 use zimgurav::kind::INPUT;
-use zimgurav::{Counts, Found, Outcome, Refusal, CONTACTS, RECORD_BYTES};
+use zimgurav::{Counts, Found, Outcome, Refusal, Word, CONTACTS, RECORD_BYTES};
 
 /// The operations, in the order in which their answers are counted.
 pub const OPERATIONS: [&str; 5] = ["Read", "Envelope", "Simulate", "Search", "Bench"];
@@ -80,6 +80,11 @@ pub struct Coverage {
     /// Gates of accepted envelopes, and those of them that had a gap filled.
     gates: u64,
     filled: u64,
+    /// Accepted envelopes, and accepted simulations, in which pulses of a gate overlap.
+    overlaps: [u64; 2],
+    /// Sheets of accepted calls, and those of them with a word above 32 bits.
+    sheets: u64,
+    wide: u64,
     /// By outcome: without a split and after one.
     outcomes: [[u64; 2]; 3],
     splits: Total,
@@ -123,6 +128,22 @@ impl Coverage {
         self.filled += filled;
     }
 
+    /// Counts whether pulses overlap in an accepted envelope.
+    pub fn count_envelope_overlap(&mut self, overlap: bool) {
+        self.overlaps[0] += u64::from(overlap);
+    }
+
+    /// Counts whether pulses overlap in an accepted simulation.
+    pub fn count_simulation_overlap(&mut self, overlap: bool) {
+        self.overlaps[1] += u64::from(overlap);
+    }
+
+    /// Counts the sheet that an accepted call left.
+    pub fn count_sheet(&mut self, sheet: &[Word]) {
+        self.sheets += 1;
+        self.wide += u64::from(sheet.iter().any(|&word| word > Word::from(u32::MAX)));
+    }
+
     /// Counts an accepted search.
     pub fn count_search(&mut self, found: &Found) {
         self.outcomes[found.outcome as usize][usize::from(found.splits > 0)] += 1;
@@ -148,6 +169,19 @@ fn named<'a>(names: impl IntoIterator<Item = &'a str>, counts: &[u64]) -> String
 /// The counts of classes behind the classes' names.
 fn classes(classes: &[(usize, &'static str)], counts: &[u64]) -> String {
     named(classes.iter().map(|(_, name)| *name), counts)
+}
+
+/// What overlapping pulses have covered, in two lines.
+fn write_sums(f: &mut fmt::Formatter, coverage: &Coverage) -> fmt::Result {
+    let [envelopes, simulations] = coverage.overlaps;
+    let [of_envelopes, of_simulations] = [1, 2].map(|operation| coverage.answers[operation][0]);
+    write!(
+        f,
+        "overlaps  of pulses in {envelopes} of {of_envelopes} envelopes, "
+    )?;
+    writeln!(f, "in {simulations} of {of_simulations} simulations")?;
+    let (wide, sheets) = (coverage.wide, coverage.sheets);
+    writeln!(f, "words     above 32 bits in {wide} of {sheets} sheets")
 }
 
 /// A line for each operation: the accepted calls, then the refusals by number.
@@ -182,6 +216,7 @@ impl fmt::Display for Coverage {
         writeln!(f, "hops      1 to 16: {:?}", self.hop_limits)?;
         let (gates, filled) = (self.gates, self.filled);
         writeln!(f, "filled    {filled} of {gates} gates of envelopes")?;
+        write_sums(f, self)?;
         for outcome in [Outcome::Exact, Outcome::Within, Outcome::Spent] {
             let [without, after] = self.outcomes[outcome as usize];
             let name = outcome.to_string();
@@ -191,5 +226,37 @@ impl fmt::Display for Coverage {
         writeln!(f, "cases     {}; {} capped", self.cases, self.capped)?;
         writeln!(f, "patterns  {} held against searches", self.patterns)?;
         write!(f, "texts     records {}", self.records)
+    }
+}
+
+#[cfg(test)]
+mod tests {
+    use super::*;
+
+    #[test]
+    fn sheets_with_a_word_above_32_bits() {
+        let mut coverage = Coverage::default();
+        coverage.count_sheet(&[0, 1, 0xffff_ffff]);
+        assert_eq!((coverage.wide, coverage.sheets), (0, 1));
+        coverage.count_sheet(&[0, 0x1_0000_0000, 0]);
+        assert_eq!((coverage.wide, coverage.sheets), (1, 2));
+        let lines = coverage.to_string();
+        assert!(lines.contains("\nwords     above 32 bits in 1 of 2 sheets\n"));
+    }
+
+    #[test]
+    fn overlaps_of_envelopes_and_simulations() {
+        let mut coverage = Coverage::default();
+        for (operation, accepted) in [(1, 3), (2, 5)] {
+            for _ in 0..accepted {
+                coverage.count_answer(operation, &Ok(()));
+            }
+        }
+        for overlap in [true, false, true] {
+            coverage.count_envelope_overlap(overlap);
+        }
+        coverage.count_simulation_overlap(true);
+        let line = "\noverlaps  of pulses in 2 of 3 envelopes, in 1 of 5 simulations\n";
+        assert!(coverage.to_string().contains(line));
     }
 }

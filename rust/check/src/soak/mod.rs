@@ -17,7 +17,7 @@ use crate::second;
 pub use coverage::Coverage;
 use coverage::OPERATIONS;
 use zimgurav::kind::INPUT;
-use zimgurav::RECORD_BYTES;
+use zimgurav::{Counts, Refusal, RECORD_BYTES};
 
 /// How many random patterns are held against each accepted search.
 const PATTERNS: usize = 3;
@@ -79,6 +79,11 @@ fn soak_block(
     })
 }
 
+/// Says of which operation something was seen.
+fn of_operation(operation: usize) -> impl Fn(String) -> String {
+    move |seen| format!("{}: {seen}", OPERATIONS[operation])
+}
+
 /// Makes all calls in both implementations, holds simulations against an accepted search, and reads the records
 /// of an accepted text.
 fn compare_calls(
@@ -87,38 +92,64 @@ fn compare_calls(
     random: &mut Random,
     coverage: &mut Coverage,
 ) -> Result<(), String> {
-    let in_operation =
-        |operation: usize| move |seen: String| format!("{}: {seen}", OPERATIONS[operation]);
-
-    let read = compare(pair, Implementation::read, arguments).map_err(in_operation(0))?;
+    let read = compare(pair, Implementation::read, arguments).map_err(of_operation(0))?;
     coverage.count_block(arguments, read.answer);
     coverage.count_answer(0, &read.answer);
 
-    let envelope = compare(pair, Implementation::envelope, arguments).map_err(in_operation(1))?;
-    coverage.count_answer(1, &envelope.answer);
-    if let (Ok(counts), Ok(_)) = (read.answer, envelope.answer) {
-        let filled = second::gates_filled(&arguments.file, arguments.hop_limit);
-        coverage.count_envelope(arguments, counts, filled);
-    }
+    compare_envelopes(pair, arguments, read.answer, coverage).map_err(of_operation(1))?;
+    compare_simulations(pair, arguments, coverage).map_err(of_operation(2))?;
 
-    let simulate = compare(pair, Implementation::simulate, arguments).map_err(in_operation(2))?;
-    coverage.count_answer(2, &simulate.answer);
-
-    let search = compare(pair, Implementation::search, arguments).map_err(in_operation(3))?;
+    let search = compare(pair, Implementation::search, arguments).map_err(of_operation(3))?;
     coverage.count_answer(3, &search.answer);
     if let Ok(found) = search.answer {
         let lent = search.after;
         coverage.count_search(&found);
+        coverage.count_sheet(&lent.sheet);
         hold_against_simulations(&pair[0], &Searched { lent, found }, random, coverage)
             .map_err(|seen| format!("Search against Simulate: {seen}"))?;
     }
 
-    let bench = compare(pair, Implementation::bench, arguments).map_err(in_operation(4))?;
+    let bench = compare(pair, Implementation::bench, arguments).map_err(of_operation(4))?;
     coverage.count_answer(4, &bench.answer);
     if let Ok(records) = bench.answer {
         coverage.count_text(records);
         read_again(&pair[0], bench.after, records)
             .map_err(|seen| format!("Bench against Read: {seen}"))?;
+    }
+    Ok(())
+}
+
+/// Makes the envelope in both implementations, and counts what an accepted one is like.
+fn compare_envelopes(
+    pair: &[Implementation; 2],
+    arguments: &Arguments,
+    read: Result<Counts, Refusal>,
+    coverage: &mut Coverage,
+) -> Result<(), String> {
+    let envelope = compare(pair, Implementation::envelope, arguments)?;
+    coverage.count_answer(1, &envelope.answer);
+    if let (Ok(counts), Ok(_)) = (read, envelope.answer) {
+        let (file, hop_limit) = (&arguments.file, arguments.hop_limit);
+        let filled = second::gates_filled(file, hop_limit);
+        coverage.count_envelope(arguments, counts, filled);
+        coverage.count_envelope_overlap(second::envelope_overlaps(file, hop_limit));
+        coverage.count_sheet(&envelope.after.sheet);
+    }
+    Ok(())
+}
+
+/// Simulates in both implementations, and counts what an accepted simulation is like.
+fn compare_simulations(
+    pair: &[Implementation; 2],
+    arguments: &Arguments,
+    coverage: &mut Coverage,
+) -> Result<(), String> {
+    let simulate = compare(pair, Implementation::simulate, arguments)?;
+    coverage.count_answer(2, &simulate.answer);
+    if simulate.answer.is_ok() {
+        let overlap = second::simulation_overlaps(&arguments.file, &arguments.pattern);
+        coverage.count_simulation_overlap(overlap);
+        coverage.count_sheet(&simulate.after.sheet);
     }
     Ok(())
 }
