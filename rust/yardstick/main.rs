@@ -3,20 +3,18 @@
 //!
 //! Built by `run`, which says where the yardstick is. The argument is the folder of its blocks.
 //!
-//! What is timed has to agree in everything but the quiet tick, as [`compared`] says. The blocks are timed with
-//! pulses that need no rounding, as [`without_fractions`] says.
+//! What is timed has to agree in the whole answer, the quiet tick included, and in every buffer but the work buffer.
 
 use std::env;
 use std::path::Path;
 
-use baseline::fast;
+use baseline::{fast, sums};
 use check::implementation::{Implementation, LIBRARY, SECOND};
-use check::measure::{bench_block, compare_operation, compare_searches, full_blocks};
-use check::sample::Arguments;
-use zimgurav::kind::INPUT;
-use zimgurav::{Counts, Currents, Found, Outcome, Refusal, Word, RECORD_BYTES};
+use check::measure::{bench_block, compare, compare_searches, full_blocks};
+use zimgurav::{Counts, Currents, Found, Outcome, Refusal, Word};
 
-/// Bench is not timed here.
+/// The yardstick. Its `sums` rounds to the nearest and adds pulses up; Read is that of its `fast`, as `sums` has none.
+/// Neither Read nor Bench is timed here.
 const YARDSTICK: Implementation = Implementation {
     name: "yardstick",
     read,
@@ -40,7 +38,7 @@ fn envelope(
     sheet: &mut [Word],
     work: &mut [u8],
 ) -> Result<Currents, Refusal> {
-    let answer = fast::envelope(file, hop_limit, table, sheet, work);
+    let answer = sums::envelope(file, hop_limit, table, sheet, work);
     answer.map(currents).map_err(refusal)
 }
 
@@ -51,7 +49,7 @@ fn simulate(
     pattern: &[u8],
     work: &mut [u8],
 ) -> Result<Currents, Refusal> {
-    let answer = fast::simulate(file, table, sheet, pattern, work);
+    let answer = sums::simulate(file, table, sheet, pattern, work);
     answer.map(currents).map_err(refusal)
 }
 
@@ -67,7 +65,7 @@ fn search(
     work: &mut [u8],
     store: &mut [u8],
 ) -> Result<Found, Refusal> {
-    let answer = fast::search(
+    let answer = sums::search(
         file, hop_limit, table, ratio, budget, sheet, pattern, work, store,
     );
     answer.map(found).map_err(refusal)
@@ -81,8 +79,7 @@ fn counts(counts: baseline::Counts) -> Counts {
     }
 }
 
-/// The yardstick's answer to Envelope and Simulate, in the library's type. Its quiet tick is an older number: where
-/// the last pulse of any gate could end.
+/// The yardstick's answer to Envelope and Simulate, in the library's type.
 fn currents(currents: baseline::Currents) -> Currents {
     Currents {
         drop: currents.drop,
@@ -90,8 +87,9 @@ fn currents(currents: baseline::Currents) -> Currents {
     }
 }
 
-/// The yardstick's answer to Search, in the library's type. It has no quiet tick.
-fn found(answer: baseline::Answer) -> Found {
+/// The yardstick's answer to Search, in the library's type.
+fn found(found: sums::Found) -> Found {
+    let answer = found.answer;
     Found {
         outcome: match answer.outcome {
             baseline::Outcome::Exact => Outcome::Exact,
@@ -102,7 +100,7 @@ fn found(answer: baseline::Answer) -> Found {
         lower: answer.lower,
         splits: answer.splits,
         cases: answer.cases,
-        quiet: 0,
+        quiet: found.quiet.into(),
     }
 }
 
@@ -114,67 +112,16 @@ fn refusal(refusal: baseline::Refusal) -> Refusal {
     }
 }
 
-/// The operations as they are compared: with no quiet tick in the answer, since the yardstick's is not the library's.
-/// The sheets are compared whole.
-mod compared {
-    use super::*;
-
-    pub fn envelope(each: &Implementation, lent: &mut Arguments) -> Result<Currents, Refusal> {
-        each.envelope(lent).map(without_quiet)
-    }
-
-    pub fn simulate(each: &Implementation, lent: &mut Arguments) -> Result<Currents, Refusal> {
-        each.simulate(lent).map(without_quiet)
-    }
-
-    pub fn search(each: &Implementation, lent: &mut Arguments) -> Result<Found, Refusal> {
-        let found = each.search(lent)?;
-        Ok(Found { quiet: 0, ..found })
-    }
-
-    fn without_quiet(currents: Currents) -> Currents {
-        Currents {
-            quiet: 0,
-            ..currents
-        }
-    }
-}
-
-/// The arguments with each peak above 0 changed to a multiple of both the gate's rise and its fall, so that every value
-/// of a pulse is a whole number: the yardstick rounds down, the others to the nearest.
-fn without_fractions(mut arguments: Arguments) -> Arguments {
-    let (records, _) = arguments.file.as_chunks_mut::<RECORD_BYTES>();
-    for gate in records.iter_mut().filter(|record| record[0] != INPUT) {
-        let [rise, fall] = [gate[12], gate[13]].map(u16::from);
-        let mut multiples = (1..=fall).map(|times| times * rise);
-        let least = multiples.find(|multiple| multiple % fall == 0);
-        let least = least.expect("the product is a multiple of both");
-        for bytes in gate[14..18].as_chunks_mut().0 {
-            let peak = u16::from_le_bytes(*bytes);
-            let times = (peak / least).max(peak.min(1));
-            *bytes = (least * times).to_le_bytes();
-        }
-    }
-    arguments
-}
-
-/// Times Envelope and Simulate of the three.
-fn compare(name: &str, arguments: &Arguments) {
-    let all = [LIBRARY, SECOND, YARDSTICK];
-    let (envelope, simulate) = (format!("envelope, {name}"), format!("simulate, {name}"));
-    compare_operation(&envelope, compared::envelope, arguments, &all);
-    compare_operation(&simulate, compared::simulate, arguments, &all);
-}
-
 fn main() {
     let folder = env::args_os()
         .nth(1)
         .expect("the folder of the yardstick's blocks");
-    let bench_block = without_fractions(bench_block(Path::new(&folder)));
-    compare("bench.blk", &bench_block);
+    let bench_block = bench_block(Path::new(&folder));
+    let all = [LIBRARY, SECOND, YARDSTICK];
+    compare("bench.blk", &bench_block, &all);
     for (name, arguments) in full_blocks() {
-        compare(name, &without_fractions(arguments));
+        compare(name, &arguments, &all);
     }
-    let (call, pair) = (compared::search, [LIBRARY, YARDSTICK]);
+    let (call, pair) = (Implementation::search, [LIBRARY, YARDSTICK]);
     compare_searches("bench.blk", call, &bench_block, &BUDGETS, &pair);
 }
