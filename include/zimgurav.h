@@ -64,7 +64,7 @@ typedef uint64_t zimgurav_word;
 #define ZIMGURAV_PATTERN_BYTES 64    /* bytes of a pattern */
 #define ZIMGURAV_CASE_BYTES 72       /* bytes of a case in the store */
 #define ZIMGURAV_ANSWER_NUMBERS 8    /* numbers of an answer */
-#define ZIMGURAV_STACK_BYTES 49152   /* bytes of stack that are enough for any call */
+#define ZIMGURAV_STACK_BYTES 81920   /* bytes of stack that are enough for any call */
 
 #define ZIMGURAV_MOST_NETS 1024      /* the most nets of a block: its records */
 #define ZIMGURAV_MOST_INPUTS 64      /* the most inputs of a block */

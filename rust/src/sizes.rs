@@ -42,7 +42,7 @@ pub const CASE_BYTES: usize = 72;
 pub const ANSWER_NUMBERS: usize = 8;
 
 /// The bytes of stack that are enough for any call.
-pub const STACK_BYTES: usize = 48 << 10;
+pub const STACK_BYTES: usize = 80 << 10;
 
 /// The most nets of a block: its records.
 pub const MOST_NETS: u64 = 1024;

@@ -242,7 +242,7 @@ module _ (gate : Gate) (greater lower : List ℕ) where
 -- A step of the pass: a run is drawn.
 module _ {gate : Gate} {greater lower all : List ℕ} {from : ℕ} {run : Run} {words after : List ℕ} (fields : PulseFields gate)
     (ticks : TicksByPeak greater lower all) (late : gate .delay ≤ from) (next : NextRun greater lower from run) (some : run .first < run .end)
-    (drawn : RunDrawn (peakOf gate (run .greater)) (gate .rise) (gate .fall) (gate .contact) (run .first - gate .delay) (run .end - gate .delay) words after) where
+    (drawn : RunDrawn (peakOf gate (run .greater)) (gate .rise) (gate .fall) (gate .contact) (run .first - gate .delay) (run .end - 1 - gate .delay + 1) words after) where
   abbrev allowed : ℕ → ℕ → ℕ
   allowed t x = pulseByRows gate greater lower x t
 
@@ -254,12 +254,12 @@ module _ {gate : Gate} {greater lower all : List ℕ} {from : ℕ} {run : Run} {
       peak-allowed gate greater lower x t fields (ticks .apart x (omega arith)) (run .greater) (next .inside x low h)
       ∙ same-age (peakOf gate (run .greater)) (gate .rise) (gate .fall) (gate .delay) x t 0 (x - gate .delay) t (omega arith)
 
-  run-allowed : (t : ℕ) → sumBetween (run .first - gate .delay) (run .end - gate .delay) (λ x. pulseAt (peakOf gate (run .greater)) (gate .rise) (gate .fall) 0 x t)
+  run-allowed : (t : ℕ) → sumBetween (run .first - gate .delay) (run .end - 1 - gate .delay + 1) (λ x. pulseAt (peakOf gate (run .greater)) (gate .rise) (gate .fall) 0 x t)
       ≡ sumBetween (run .first) (run .end) (allowed t)
   unfolding sumBetween
   run-allowed t =
       let begun = next .low in
-      let count : run .end - gate .delay - (run .first - gate .delay) ≡ run .end - run .first = omega arith in
+      let count : run .end - 1 - gate .delay + 1 - (run .first - gate .delay) ≡ run .end - run .first = omega arith in
       rw count
       (sum-same (run .end - run .first) _ _
       (λ k h. let place : run .first - gate .delay + k ≡ run .first + k - gate .delay = omega arith in

@@ -83,8 +83,7 @@ fn add_changes(words: &mut [Word], at: usize, shapes: &[u32], place: usize, eigh
     }
 }
 
-// The pulses that start at ticks `first` to before `end`, at a contact. A pulse is 0 at its start, so that its first change is at the tick
-// after it.
+// The pulses that start at ticks `first` to `last`, at a contact. A pulse is 0 at its start, so that its first change is at the tick after.
 pub fn draw_run(
     words: &mut [Word],
     contact: usize,
@@ -92,17 +91,17 @@ pub fn draw_run(
     shapes: &[u32],
     place: usize,
     first: usize,
-    end: usize,
+    last: usize,
 )
-    requires { ⌜ (length (now words) ≡ 8192) × (contact < 16) × InRange (pulse .peak) (pulse .rise) (pulse .fall) × Shaped (pulse .peak) (pulse .rise) (pulse .fall) place (now shapes) × (first < end) × (end ≤ 256) ⌝ }
-    ensures { λ _. ⌜ RunDrawn (pulse .peak) (pulse .rise) (pulse .fall) contact first end (now (words .entry)) (now (words .exit)) ⌝ }
+    requires { ⌜ (length (now words) ≡ 8192) × (contact < 16) × InRange (pulse .peak) (pulse .rise) (pulse .fall) × Shaped (pulse .peak) (pulse .rise) (pulse .fall) place (now shapes) × (first ≤ last) × (last < 256) ⌝ }
+    ensures { λ _. ⌜ RunDrawn (pulse .peak) (pulse .rise) (pulse .fall) contact first (last + 1) (now (words .entry)) (now (words .exit)) ⌝ }
 {
     let eights = (pulse.rise + pulse.fall + 7) / 8;
     let row = 512 * contact;
-    if end == first + 1 {
-        add_changes(words, row + end, shapes, place, eights);
+    if first == last {
+        add_changes(words, row + (last + 1), shapes, place, eights);
         return;
     }
     add_levels(words, row + first, shapes, place, eights);
-    take_levels(words, row + end, shapes, place, eights);
+    take_levels(words, row + (last + 1), shapes, place, eights);
 }

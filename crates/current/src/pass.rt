@@ -76,7 +76,7 @@ fn pass_run(
         return 256;
     }
     let first = run.first - gate.delay;
-    let end = run.end - gate.delay;
+    let last = run.end - 1 - gate.delay;
     draw::draw_run(
         sheet,
         gate.contact,
@@ -84,7 +84,7 @@ fn pass_run(
         shapes,
         place_of(run.greater),
         first,
-        end,
+        last,
     );
     run.end
 }

@@ -171,8 +171,12 @@ module _ {file : File} {setting : Setting} {codes words after : List ℕ} {settl
       long = restored .long;
       rows = λ c t h late inside. word-restored c t h inside ∙ quiet-after c t (omega arith);
     };
-    most = λ t h. omega (arith, drawn .most t h, sum-same 16 (λ c. sheetIn after c t) (λ c. restoredIn words c t)
-        (λ c l. word-restored c t l h ∙ sym (drawn .at c t l h)));
+    most = λ t h. omega (
+      arith,
+      drawn .most t h,
+      sum-same 16 (λ c. sheetIn after c t) (λ c. restoredIn words c t)
+          (λ c l. word-restored c t l h ∙ sym (drawn .at c t l h)),
+    );
   }
 
   -- With its drop taken and its quiet tick found, it is evaluated.

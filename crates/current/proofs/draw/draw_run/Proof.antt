@@ -15,11 +15,11 @@ add-eights-2 c = search needs
 mul-row : tie.Need-mul-row
 mul-row c = search needs
 
-add-if1 : tie.Need-add-if1
-add-if1 c = search needs
-
 add-add-changes : tie.Need-add-add-changes
 add-add-changes c = search needs
+
+add-add-changes-2 : tie.Need-add-add-changes-2
+add-add-changes-2 c = search needs
 
 add-changes-requires : tie.Need-add-changes-requires
 add-changes-requires c κs = search needs
@@ -31,7 +31,7 @@ returns : tie.Need-returns
 returns c =
     let start = c .before .before .before .before .before .before .before .before in
     let range = start .pre .2 in
-    pulse-drawn range (start .pre .1) (start .pre .3) (start .pre .4) (start .pre .5) (omega arith) (omega (arith, range .rise-high, range .fall-high)) (omega arith)
+    pulse-drawn range (start .pre .1) (start .pre .3) (omega (arith, start .pre .4)) (omega (arith, start .pre .5)) (omega arith) (omega (arith, range .rise-high, range .fall-high)) (omega arith)
     (c .before .before .add-changes .ensures)
 
 add-add-levels : tie.Need-add-add-levels
@@ -43,6 +43,9 @@ add-levels-requires c κs = search needs
 add-take-levels : tie.Need-add-take-levels
 add-take-levels c = search needs
 
+add-take-levels-2 : tie.Need-add-take-levels-2
+add-take-levels-2 c = search needs
+
 take-levels-requires : tie.Need-take-levels-requires
 take-levels-requires c κs = search needs
 
@@ -53,7 +56,7 @@ returns-2 : tie.Need-returns-2
 returns-2 c =
     let start = c .before .before .before .before .before .before .before .before .before .before .before .before in
     let range = start .pre .2 in
-    run-drawn range (start .pre .1) (start .pre .3) (start .pre .4) (start .pre .5) (omega arith) (omega (arith, range .rise-high, range .fall-high))
+    run-drawn range (start .pre .1) (start .pre .3) (omega (arith, start .pre .4)) (omega (arith, start .pre .5)) (omega arith) (omega (arith, range .rise-high, range .fall-high))
     (c .before .before .before .before .before .before .add-levels .ensures) (c .before .before .take-levels .ensures)
 
 pub draw-run-spec : {M : Type 1} → statement M
@@ -63,14 +66,15 @@ draw-run-spec =
     add-eights
     add-eights-2
     mul-row
-    add-if1
     add-add-changes
+    add-add-changes-2
     add-changes-requires
     same-length
     returns
     add-add-levels
     add-levels-requires
     add-take-levels
+    add-take-levels-2
     take-levels-requires
     same-length-2
     returns-2)

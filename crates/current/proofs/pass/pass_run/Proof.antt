@@ -18,8 +18,13 @@ returns c =
 sub-first : tie.Need-sub-first
 sub-first c = search needs
 
-sub-end : tie.Need-sub-end
-sub-end c =
+sub-last : tie.Need-sub-last
+sub-last c =
+    let some = run-some (c .before .before .before .before .before .next-run .ensures) (c .before .before .before .if1 .left) in
+    omega arith
+
+sub-last-2 : tie.Need-sub-last-2
+sub-last-2 c =
     let next = c .before .before .before .before .before .before .next-run .ensures in
     let some = run-some next (c .before .before .before .before .if1 .left) in
     let begun = next .low in
@@ -69,7 +74,8 @@ pass-run-spec =
     next-run-requires
     returns
     sub-first
-    sub-end
+    sub-last
+    sub-last-2
     pulse-of-requires
     place-of-requires
     draw-run-requires
