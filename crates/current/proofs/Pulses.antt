@@ -57,7 +57,7 @@ level-most P steps j h =
     (λ t. let one : 1 ≤ steps = omega (arith, eqb-false j 0 t) in omega (arith, level-rises P steps one h, level-top P steps one))
 
 module _ {P r f : ℕ} (range : InRange P r f) where
-  pub pulse-top : pulse P r f r ≡ P
+  pulse-top : pulse P r f r ≡ P
   pulse-top = pulse-up P r f r (le-refl r) ∙ level-top P r (range .rise-low)
 
   -- The peak is also the first level of the fall.

@@ -81,12 +81,12 @@ pub sum-taken : (word : ℕ) {number level result : ℕ} → number ≡ level �
 unfolding wrappedSum
 sum-taken word e r = r ∙ ap (λ x. (word + x) % wordLimit) e
 
-pub difference-taken : {word number level result : ℕ} → number ≡ level → number < 4294967296 → result < wordLimit → (result + number) % wordLimit ≡ word
+pub difference-taken : {word number level result : ℕ} → number ≡ level → number < 65536 → result < wordLimit → (result + number) % wordLimit ≡ word
     → result ≡ wrappedDifference word level
 difference-taken {word} {number} {level} {result} e small fits r =
     difference-is word number result (omega arith) fits r ∙ ap (wrappedDifference word) e
 
-pub change-taken : {next following number level result : ℕ} → next ≡ following → number ≡ level → number < 4294967296 → result < wordLimit
+pub change-taken : {next following number level result : ℕ} → next ≡ following → number ≡ level → number < 65536 → result < wordLimit
     → (result + number) % wordLimit ≡ next → result ≡ wrappedDifference following level
 change-taken {level = level} n e small fits r = difference-taken e small fits r ∙ ap (λ x. wrappedDifference x level) n
 

@@ -10,19 +10,19 @@ use super::level::Pulse;
 use sheet::Word;
 
 // Eight levels of the shapes from a place on added to eight words from place `at` on.
-fn add_eight_levels(words: &mut [Word], at: usize, shapes: &[u32], place: usize)
+fn add_eight_levels(words: &mut [Word], at: usize, shapes: &[u16], place: usize)
     requires { ⌜ (at + 8 ≤ length (now words)) × (place + 8 ≤ length (now shapes)) ⌝ }
     ensures { λ _. ⌜ SumsMade (levelIn (now (shapes .entry)) place) at 8 (now (words .entry)) (now (words .exit)) ⌝ }
 {
     let mut k: usize = 0;
     while k < 8 {
-        let level = numbers::u64_from_u32(shapes[place + k]);
+        let level = numbers::u64_from_u16(shapes[place + k]);
         words[at + k] = std::num::wrapping_add_u64(words[at + k], level);
         k += 1;
     }
 }
 
-fn add_levels(words: &mut [Word], at: usize, shapes: &[u32], place: usize, eights: usize)
+fn add_levels(words: &mut [Word], at: usize, shapes: &[u16], place: usize, eights: usize)
     requires { ⌜ (at + 8 * eights ≤ length (now words)) × (length (now words) ≡ 8192) × (place + 8 * eights ≤ length (now shapes)) × (length (now shapes) ≡ 528) ⌝ }
     ensures { λ _. ⌜ SumsMade (levelIn (now (shapes .entry)) place) at (8 * eights) (now (words .entry)) (now (words .exit)) ⌝ }
 {
@@ -34,19 +34,19 @@ fn add_levels(words: &mut [Word], at: usize, shapes: &[u32], place: usize, eight
 }
 
 // The same taken away.
-fn take_eight_levels(words: &mut [Word], at: usize, shapes: &[u32], place: usize)
+fn take_eight_levels(words: &mut [Word], at: usize, shapes: &[u16], place: usize)
     requires { ⌜ (at + 8 ≤ length (now words)) × (place + 8 ≤ length (now shapes)) ⌝ }
     ensures { λ _. ⌜ DifferencesMade (levelIn (now (shapes .entry)) place) at 8 (now (words .entry)) (now (words .exit)) ⌝ }
 {
     let mut k: usize = 0;
     while k < 8 {
-        let level = numbers::u64_from_u32(shapes[place + k]);
+        let level = numbers::u64_from_u16(shapes[place + k]);
         words[at + k] = std::num::wrapping_sub_u64(words[at + k], level);
         k += 1;
     }
 }
 
-fn take_levels(words: &mut [Word], at: usize, shapes: &[u32], place: usize, eights: usize)
+fn take_levels(words: &mut [Word], at: usize, shapes: &[u16], place: usize, eights: usize)
     requires { ⌜ (at + 8 * eights ≤ length (now words)) × (length (now words) ≡ 8192) × (place + 8 * eights ≤ length (now shapes)) × (length (now shapes) ≡ 528) ⌝ }
     ensures { λ _. ⌜ DifferencesMade (levelIn (now (shapes .entry)) place) at (8 * eights) (now (words .entry)) (now (words .exit)) ⌝ }
 {
@@ -58,21 +58,21 @@ fn take_levels(words: &mut [Word], at: usize, shapes: &[u32], place: usize, eigh
 }
 
 // Eight changes of the levels from a place on, each to the level that follows, added to eight words from place `at` on.
-fn add_eight_changes(words: &mut [Word], at: usize, shapes: &[u32], place: usize)
+fn add_eight_changes(words: &mut [Word], at: usize, shapes: &[u16], place: usize)
     requires { ⌜ (at + 8 ≤ length (now words)) × (place + 9 ≤ length (now shapes)) ⌝ }
     ensures { λ _. ⌜ SumsMade (changeIn (now (shapes .entry)) place) at 8 (now (words .entry)) (now (words .exit)) ⌝ }
 {
     let mut k: usize = 0;
     while k < 8 {
-        let level = numbers::u64_from_u32(shapes[place + k]);
-        let next = numbers::u64_from_u32(shapes[place + k + 1]);
+        let level = numbers::u64_from_u16(shapes[place + k]);
+        let next = numbers::u64_from_u16(shapes[place + k + 1]);
         let change = std::num::wrapping_sub_u64(next, level);
         words[at + k] = std::num::wrapping_add_u64(words[at + k], change);
         k += 1;
     }
 }
 
-fn add_changes(words: &mut [Word], at: usize, shapes: &[u32], place: usize, eights: usize)
+fn add_changes(words: &mut [Word], at: usize, shapes: &[u16], place: usize, eights: usize)
     requires { ⌜ (at + 8 * eights ≤ length (now words)) × (length (now words) ≡ 8192) × (place + 8 * eights + 1 ≤ length (now shapes)) × (length (now shapes) ≡ 528) ⌝ }
     ensures { λ _. ⌜ SumsMade (changeIn (now (shapes .entry)) place) at (8 * eights) (now (words .entry)) (now (words .exit)) ⌝ }
 {
@@ -88,7 +88,7 @@ pub fn draw_run(
     words: &mut [Word],
     contact: usize,
     pulse: Pulse,
-    shapes: &[u32],
+    shapes: &[u16],
     place: usize,
     first: usize,
     last: usize,

@@ -33,7 +33,7 @@ fn place_of(greater: bool) -> usize
 }
 
 // The shapes of both pulses, made from zeros where a tick has their peak.
-fn make_shapes(gate: Gate, greater: &[u64], lower: &[u64], shapes: &mut [u32])
+fn make_shapes(gate: Gate, greater: &[u64], lower: &[u64], shapes: &mut [u16])
     requires { ⌜ PulseFields gate × (length (now greater) ≡ 4) × (length (now lower) ≡ 4) × (now shapes ≡ replicate 528 0) ⌝ }
     ensures { λ _. ⌜ ShapesMade gate (now (greater .entry)) (now (lower .entry)) (now (shapes .exit)) ⌝ }
 {
@@ -65,7 +65,7 @@ fn pass_run(
     greater: &[u64],
     lower: &[u64],
     all: &[u64],
-    shapes: &[u32],
+    shapes: &[u16],
     passed: usize,
 ) -> usize
     requires { ⌜ (length (now sheet) ≡ 8192) × PulseFields gate × TicksByPeak (now greater) (now lower) (now all) × ShapesMade gate (now greater) (now lower) (now shapes) × (gate .delay ≤ passed) × (passed < 256) ⌝ }
@@ -97,7 +97,7 @@ pub fn pass_ticks(sheet: &mut [Word], gate: Gate, greater: &[u64], lower: &[u64]
 {
     let alone = edge::without(lower, greater);
     let all = edge::either(greater, &alone);
-    let mut shapes: [u32; 528] = [0; 528];
+    let mut shapes: [u16; 528] = [0; 528];
     make_shapes(gate, greater, &alone, &mut shapes);
     let mut passed = gate.delay;
     while passed < 256 {

@@ -10,32 +10,32 @@ use super::level::Pulse;
 use super::level::level;
 
 // The rise of a pulse, up to before the peak, among the shapes from a place on.
-fn make_rise(shapes: &mut [u32], place: usize, pulse: Pulse, factors: Factors)
+fn make_rise(shapes: &mut [u16], place: usize, pulse: Pulse, factors: Factors)
     requires { ⌜ (length (now shapes) ≡ 528) × (place ≤ 264) × Factored (pulse .peak) (pulse .rise) (pulse .fall) (factors .rising) (factors .falling) ⌝ }
     ensures { λ _. ⌜ RiseMade (pulse .peak) (pulse .rise) (pulse .fall) place (now (shapes .entry)) (now (shapes .exit)) ⌝ }
 {
     let mut k: usize = 0;
     while k < pulse.rise {
-        shapes[place + k] = level(pulse.peak, factors.rising, k);
+        shapes[place + k] = level(pulse.peak, factors.rising, k) as u16;
         k += 1;
     }
 }
 
 // The fall of a pulse, from the peak on.
-fn make_fall(shapes: &mut [u32], place: usize, pulse: Pulse, factors: Factors)
+fn make_fall(shapes: &mut [u16], place: usize, pulse: Pulse, factors: Factors)
     requires { ⌜ (length (now shapes) ≡ 528) × (place ≤ 264) × Factored (pulse .peak) (pulse .rise) (pulse .fall) (factors .rising) (factors .falling) ⌝ }
     ensures { λ _. ⌜ FallMade (pulse .peak) (pulse .rise) (pulse .fall) place (now (shapes .entry)) (now (shapes .exit)) ⌝ }
 {
     let end = pulse.rise + pulse.fall;
     let mut k = pulse.rise;
     while k < end {
-        shapes[place + k] = level(pulse.peak, factors.falling, end - k);
+        shapes[place + k] = level(pulse.peak, factors.falling, end - k) as u16;
         k += 1;
     }
 }
 
 // The shape of a pulse, where it is needed: its level after each number of ticks.
-pub fn make_shape(needed: bool, shapes: &mut [u32], place: usize, pulse: Pulse, factors: Factors)
+pub fn make_shape(needed: bool, shapes: &mut [u16], place: usize, pulse: Pulse, factors: Factors)
     requires { ⌜ (length (now shapes) ≡ 528) × (place ≤ 264) × Factored (pulse .peak) (pulse .rise) (pulse .fall) (factors .rising) (factors .falling) ⌝ }
     ensures { λ _. ⌜ ShapeMade needed (pulse .peak) (pulse .rise) (pulse .fall) place (now (shapes .entry)) (now (shapes .exit)) ⌝ }
 {

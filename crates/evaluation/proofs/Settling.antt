@@ -157,7 +157,7 @@ module _ {file : File} {setting : Setting} {codes words after : List ℕ} {settl
       (λ b. let late = ltb-false (suc t) (settling + 2) b in
       restored .rest c (suc t) h l (inr late) ∙ still-after c t h late l ∙ sym (quiet-after c (suc t) (omega arith)))
 
-  pub sheet-restored : after ≡ sheetWords drawnSheet
+  sheet-restored : after ≡ sheetWords drawnSheet
   sheet-restored =
       sheet-is after drawnSheet (restored .long)
       (λ i h. let place : 512 * (i / 512) + i % 512 ≡ i = omega arith in

@@ -316,12 +316,6 @@ max-beyond (suc m) n f h none =
     (λ l. omega (arith, max-beyond m n f (le-of-suc-le-suc l) (λ k low high. none k low (omega arith)), none m (le-of-suc-le-suc l) (omega arith)))
     (eq-or-lt-of-le h)
 
--- The greatest of two values at each number.
-pub max-both : (n : ℕ) (f g : ℕ → ℕ) → maxBelow n (λ k. max (f k) (g k)) ≡ max (maxBelow n f) (maxBelow n g)
-unfolding maxBelow
-max-both zero f g = refl
-max-both (suc n) f g = omega (arith, max-both n f g)
-
 -- The greatest over two numbers is the same, whichever of them is taken first.
 
 swap-at-most : (m n : ℕ) (f : ℕ → ℕ → ℕ) → maxBelow m (λ i. maxBelow n (f i)) ≤ maxBelow n (λ j. maxBelow m (λ i. f i j))

@@ -42,13 +42,6 @@ rewritten-to f from n m given now e w = subst (λ k. Rewritten f from k given no
 pub rewritten-first : (f : ℕ → ℕ) (n : ℕ) (given now : List ℕ) → Rewritten f 0 n given now → (k : ℕ) → k < n → getD now k 0 ≡ f k
 rewritten-first f n given now w k h = ap (λ j. getD now j 0) (sym (zero-add k)) ∙ w .done k h
 
--- The word at a place of the range.
-pub rewritten-at : {f : ℕ → ℕ} {from n : ℕ} {given now : List ℕ} → Rewritten f from n given now → (i : ℕ) → from ≤ i → i < from + n
-    → getD now i 0 ≡ f (i - from)
-rewritten-at {from = from} {now = now} w i low high =
-    let place : i ≡ from + (i - from) = omega arith in
-    ap (λ j. getD now j 0) place ∙ w .done (i - from) (omega arith)
-
 -- The same by another rule that agrees with the first on the range.
 pub rewritten-same : (f g : ℕ → ℕ) (from n : ℕ) (given now : List ℕ) → ((k : ℕ) → k < n → f k ≡ g k) → Rewritten f from n given now
     → Rewritten g from n given now

@@ -9,12 +9,6 @@ pub fn max_usize(a: usize, b: usize) -> usize
     if a < b { b } else { a }
 }
 
-pub fn max_u32(a: u32, b: u32) -> u32
-    ensures { λ r. ⌜ r ≡ max a b ⌝ }
-{
-    if a < b { b } else { a }
-}
-
 pub fn max_u64(a: u64, b: u64) -> u64
     ensures { λ r. ⌜ r ≡ max a b ⌝ }
 {

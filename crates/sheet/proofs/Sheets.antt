@@ -16,7 +16,7 @@ word-at : (s : Sheet) (i : ℕ) → i < 8192 → getD (sheetWords s) i 0 ≡ s (
 unfolding sheetWords
 word-at s i h = list-at 8192 (λ i. s (i / 512) (i % 512)) i 0 h
 
-pub sheet-at : (s : Sheet) (c t : ℕ) → c < 16 → t < 512 → getD (sheetWords s) (512 * c + t) 0 ≡ s c t
+sheet-at : (s : Sheet) (c t : ℕ) → c < 16 → t < 512 → getD (sheetWords s) (512 * c + t) 0 ≡ s c t
 sheet-at s c t h l =
     let row : (512 * c + t) / 512 ≡ c = omega arith in
     let tick : (512 * c + t) % 512 ≡ t = omega arith in
@@ -37,7 +37,7 @@ sheet-long s e = ap length e ∙ list-long 8192 (λ i. s (i / 512) (i % 512))
 
 -- The words that hold a sheet have its currents, its drop and its quiet tick.
 
-pub sheet-held : (s : Sheet) {words : List ℕ} → words ≡ sheetWords s → (c t : ℕ) → c < 16 → t < 512 → sheetIn words c t ≡ s c t
+sheet-held : (s : Sheet) {words : List ℕ} → words ≡ sheetWords s → (c t : ℕ) → c < 16 → t < 512 → sheetIn words c t ≡ s c t
 sheet-held s e c t h l = ap (λ ws. getD ws (512 * c + t) 0) e ∙ sheet-at s c t h l
 
 pub drop-of-words : (table : List ℕ) (s : Sheet) {words : List ℕ} → words ≡ sheetWords s → dropOf table (sheetIn words) ≡ dropOf table s

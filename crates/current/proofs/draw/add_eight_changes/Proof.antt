@@ -22,32 +22,32 @@ abbrev μ-loop : tie.MeasureT-loop
 loop-holds : tie.Need-loop-holds Inv-loop μ-loop
 loop-holds c = (omega arith, rewritten-none _ _ _)
 
-add-u64-from-u32 : tie.Need-add-u64-from-u32 Inv-loop μ-loop
-add-u64-from-u32 c = search needs
+add-u64-from-u16 : tie.Need-add-u64-from-u16 Inv-loop μ-loop
+add-u64-from-u16 c = search needs
 
-mul-u64-from-u32 : tie.Need-mul-u64-from-u32 Inv-loop μ-loop
-mul-u64-from-u32 c = search needs
+mul-u64-from-u16 : tie.Need-mul-u64-from-u16 Inv-loop μ-loop
+mul-u64-from-u16 c = search needs
 
-shared-slice-read-u64-from-u32 : tie.Need-shared-slice-read-u64-from-u32 Inv-loop μ-loop
-shared-slice-read-u64-from-u32 c = search needs
+shared-slice-read-u64-from-u16 : tie.Need-shared-slice-read-u64-from-u16 Inv-loop μ-loop
+shared-slice-read-u64-from-u16 c = search needs
 
-u64-from-u32-requires : tie.Need-u64-from-u32-requires Inv-loop μ-loop
-u64-from-u32-requires c κs = search needs
+u64-from-u16-requires : tie.Need-u64-from-u16-requires Inv-loop μ-loop
+u64-from-u16-requires c κs = search needs
 
-add-u64-from-u32-2 : tie.Need-add-u64-from-u32-2 Inv-loop μ-loop
-add-u64-from-u32-2 c = search needs
+add-u64-from-u16-2 : tie.Need-add-u64-from-u16-2 Inv-loop μ-loop
+add-u64-from-u16-2 c = search needs
 
-add-u64-from-u32-3 : tie.Need-add-u64-from-u32-3 Inv-loop μ-loop
-add-u64-from-u32-3 c = search needs
+add-u64-from-u16-3 : tie.Need-add-u64-from-u16-3 Inv-loop μ-loop
+add-u64-from-u16-3 c = search needs
 
-mul-u64-from-u32-2 : tie.Need-mul-u64-from-u32-2 Inv-loop μ-loop
-mul-u64-from-u32-2 c = search needs
+mul-u64-from-u16-2 : tie.Need-mul-u64-from-u16-2 Inv-loop μ-loop
+mul-u64-from-u16-2 c = search needs
 
-shared-slice-read-u64-from-u32-2 : tie.Need-shared-slice-read-u64-from-u32-2 Inv-loop μ-loop
-shared-slice-read-u64-from-u32-2 c = search needs
+shared-slice-read-u64-from-u16-2 : tie.Need-shared-slice-read-u64-from-u16-2 Inv-loop μ-loop
+shared-slice-read-u64-from-u16-2 c = search needs
 
-u64-from-u32-requires-2 : tie.Need-u64-from-u32-requires-2 Inv-loop μ-loop
-u64-from-u32-requires-2 c κs = search needs
+u64-from-u16-requires-2 : tie.Need-u64-from-u16-requires-2 Inv-loop μ-loop
+u64-from-u16-requires-2 c κs = search needs
 
 wrapping-sub-u64-requires : tie.Need-wrapping-sub-u64-requires Inv-loop μ-loop
 wrapping-sub-u64-requires c κs = search needs
@@ -83,8 +83,8 @@ loop-again : tie.Need-loop-again Inv-loop μ-loop
 loop-again c =
     let start = c .before .before .before .before .before .before .before .before .before .before .before in
     let loop = c .before .before .before .before .before .before .before .before .loop in
-    let level = c .before .before .before .before .before .u64-from-u32 .ensures in
-    let following = c .before .before .before .u64-from-u322 .ensures in
+    let level = c .before .before .before .before .before .u64-from-u16 .ensures in
+    let following = c .before .before .before .u64-from-u162 .ensures in
     let after : start .args .place + loop .k + 1 ≡ start .args .place + (loop .k + 1) = omega arith in
     let change = change-taken (following .0 ∙ ap (λ j. getD (now (start .args .shapes)) j 0) after) (level .0) (level .1) (c .before .before .wrapping-sub-u64 .ok) (c .before .before .wrapping-sub-u64 .ensures) in
     let is = sum-taken _ change (c .wrapping-add-u64 .ensures) in (
@@ -108,15 +108,15 @@ add-eight-changes-spec =
     Inv-loop
     μ-loop
     loop-holds
-    add-u64-from-u32
-    mul-u64-from-u32
-    shared-slice-read-u64-from-u32
-    u64-from-u32-requires
-    add-u64-from-u32-2
-    add-u64-from-u32-3
-    mul-u64-from-u32-2
-    shared-slice-read-u64-from-u32-2
-    u64-from-u32-requires-2
+    add-u64-from-u16
+    mul-u64-from-u16
+    shared-slice-read-u64-from-u16
+    u64-from-u16-requires
+    add-u64-from-u16-2
+    add-u64-from-u16-3
+    mul-u64-from-u16-2
+    shared-slice-read-u64-from-u16-2
+    u64-from-u16-requires-2
     wrapping-sub-u64-requires
     add-wrapping-add-u64
     mul-wrapping-add-u64

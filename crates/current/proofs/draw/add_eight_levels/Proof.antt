@@ -21,17 +21,17 @@ abbrev μ-loop : tie.MeasureT-loop
 loop-holds : tie.Need-loop-holds Inv-loop μ-loop
 loop-holds c = (omega arith, rewritten-none _ _ _)
 
-add-u64-from-u32 : tie.Need-add-u64-from-u32 Inv-loop μ-loop
-add-u64-from-u32 c = search needs
+add-u64-from-u16 : tie.Need-add-u64-from-u16 Inv-loop μ-loop
+add-u64-from-u16 c = search needs
 
-mul-u64-from-u32 : tie.Need-mul-u64-from-u32 Inv-loop μ-loop
-mul-u64-from-u32 c = search needs
+mul-u64-from-u16 : tie.Need-mul-u64-from-u16 Inv-loop μ-loop
+mul-u64-from-u16 c = search needs
 
-shared-slice-read-u64-from-u32 : tie.Need-shared-slice-read-u64-from-u32 Inv-loop μ-loop
-shared-slice-read-u64-from-u32 c = search needs
+shared-slice-read-u64-from-u16 : tie.Need-shared-slice-read-u64-from-u16 Inv-loop μ-loop
+shared-slice-read-u64-from-u16 c = search needs
 
-u64-from-u32-requires : tie.Need-u64-from-u32-requires Inv-loop μ-loop
-u64-from-u32-requires c κs = search needs
+u64-from-u16-requires : tie.Need-u64-from-u16-requires Inv-loop μ-loop
+u64-from-u16-requires c κs = search needs
 
 add-wrapping-add-u64 : tie.Need-add-wrapping-add-u64 Inv-loop μ-loop
 add-wrapping-add-u64 c = search needs
@@ -64,7 +64,7 @@ loop-again : tie.Need-loop-again Inv-loop μ-loop
 loop-again c =
     let start = c .before .before .before .before .before .before .before .before in
     let loop = c .before .before .before .before .before .loop in
-    let level = c .before .before .u64-from-u32 .ensures in
+    let level = c .before .before .u64-from-u16 .ensures in
     let is = sum-taken _ (level .0) (c .wrapping-add-u64 .ensures) in (
       omega arith,
       made-next wrappedSum (levelIn (now (start .args .shapes)) (start .args .place)) (start .args .at) (loop .k) _ _ (loop .inv .1) refl (omega (arith, start .pre .0)) is _ refl,
@@ -86,10 +86,10 @@ add-eight-levels-spec =
     Inv-loop
     μ-loop
     loop-holds
-    add-u64-from-u32
-    mul-u64-from-u32
-    shared-slice-read-u64-from-u32
-    u64-from-u32-requires
+    add-u64-from-u16
+    mul-u64-from-u16
+    shared-slice-read-u64-from-u16
+    u64-from-u16-requires
     add-wrapping-add-u64
     mul-wrapping-add-u64
     slice-read-wrapping-add-u64

@@ -7,7 +7,7 @@ use borrow.Author.Needs.{needs}
 use Rattle.laws.specs.Rewritten.{Rewritten}
 use Rattle.laws.proofs.Rewritten.{rewritten-none, rewritten-next, rewritten-to}
 use Rattle.current.specs.Pulse.{pulse}
-use Rattle.current.proofs.Pulses.{fall-level}
+use Rattle.current.proofs.Pulses.{fall-level, pulse-most}
 use Rattle.current.proofs.shape.make_fall.Statement.{statement}
 use Rattle.current.proofs.shape.make_fall.Tie as tie
 
@@ -29,6 +29,12 @@ sub-level c = search needs
 
 level-requires : tie.Need-level-requires Inv-loop μ-loop
 level-requires c κs = let range = c .before .before .before .before .pre .2 .range in (range .peak-high, omega (arith, range .fall-high))
+
+cast-shapes : tie.Need-cast-shapes Inv-loop μ-loop
+cast-shapes c =
+    let ready = c .before .before .before .before .before .pre .2 in
+    let k = c .before .before .loop .k in
+    omega (arith, fall-level ready k (omega arith) (omega arith) (c .level .ensures), pulse-most (ready .range) k, ready .range .peak-high)
 
 add-shapes : tie.Need-add-shapes Inv-loop μ-loop
 add-shapes c = search needs
@@ -78,6 +84,7 @@ make-fall-spec =
     loop-holds
     sub-level
     level-requires
+    cast-shapes
     add-shapes
     mul-shapes
     slice-write-shapes

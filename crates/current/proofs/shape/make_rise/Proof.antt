@@ -7,7 +7,7 @@ use borrow.Author.Needs.{needs}
 use Rattle.laws.specs.Rewritten.{Rewritten}
 use Rattle.laws.proofs.Rewritten.{rewritten-none, rewritten-next}
 use Rattle.current.specs.Pulse.{pulse}
-use Rattle.current.proofs.Pulses.{rise-level}
+use Rattle.current.proofs.Pulses.{rise-level, pulse-most}
 use Rattle.current.proofs.shape.make_rise.Statement.{statement}
 use Rattle.current.proofs.shape.make_rise.Tie as tie
 
@@ -22,6 +22,12 @@ loop-holds c = (omega arith, rewritten-none _ _ _)
 
 level-requires : tie.Need-level-requires Inv-loop μ-loop
 level-requires c κs = let range = c .before .before .before .before .pre .2 .range in (range .peak-high, omega (arith, range .rise-high))
+
+cast-shapes : tie.Need-cast-shapes Inv-loop μ-loop
+cast-shapes c =
+    let ready = c .before .before .before .before .before .pre .2 in
+    let k = c .before .before .before .loop .k in
+    omega (arith, rise-level ready k (omega arith) (c .level .ensures), pulse-most (ready .range) k, ready .range .peak-high)
 
 add-shapes : tie.Need-add-shapes Inv-loop μ-loop
 add-shapes c = search needs
@@ -66,6 +72,7 @@ make-rise-spec =
     μ-loop
     loop-holds
     level-requires
+    cast-shapes
     add-shapes
     mul-shapes
     slice-write-shapes
