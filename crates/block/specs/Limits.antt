@@ -24,6 +24,6 @@ abbrev pub resistanceLimit : ℕ
 resistanceLimit = 65536
 
 -- Every drop is below this, in nanovolts. At a node and a tick each gate's current is counted once, times one resistance. It is below
--- 2 ^ 50, so that 1,000 times a drop fits a word.
+-- 2 ^ 50, so that 10,000 times a drop fits a word of 64 bits.
 abbrev pub dropLimit : ℕ
 dropLimit = resistanceLimit * blockLimit

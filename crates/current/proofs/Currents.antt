@@ -1,6 +1,6 @@
 -- Laws of a gate's current: when it flows, that it grows with what the gate's ticks allow, and how great it is at most.
 -- Assumes nothing.
-use Prim.Native.Nat.{ℕ, suc, _+_, _*_, _-_, _≤_, _<_}
+use Prim.Native.Nat.{ℕ, suc, _+_, _-_, _≤_, _<_}
 use mathlib.Core.Bool.{Bool, true, false, _||_, false≢true}
 use mathlib.Core.List.{List, [], _∷_, Forall₂, Forall₂·nil, Forall₂·cons}
 use mathlib.Core.Path.{_≡_, refl, sym, ap, ap₂, _∙_}

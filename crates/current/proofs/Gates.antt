@@ -1,6 +1,6 @@
 -- What drawing a gate from the rows of its edges does to the currents of a sheet.
 -- Assumes nothing.
-use Prim.Native.Nat.{ℕ, _+_, _≤_, _<_, max, min}
+use Prim.Native.Nat.{ℕ, _≤_, _<_, max, min}
 use mathlib.Core.Bool.{Bool, true, false, cond}
 use mathlib.Core.List.{List}
 use mathlib.Core.Path.{_≡_, refl, sym, ap, _∙_}
@@ -13,7 +13,6 @@ use borrow.Table.Steps.{cases}
 use Rattle.laws.specs.Below.{sumBelow, sumBetween}
 use Rattle.laws.proofs.Below.{sum-same, between-all, between-none}
 use Rattle.laws.proofs.Turn.{list-at, list-long}
-use Rattle.bits.specs.Bits.{rowBit}
 use Rattle.excitation.specs.Excitation.{hl, lh}
 use Rattle.excitation.specs.UncertaintySet.{member, empty}
 use Rattle.excitation.specs.declared.Excitation.{Excitation}

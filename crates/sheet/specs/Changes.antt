@@ -1,12 +1,12 @@
 -- Rows of changes: a word is the change of a contact's current from the tick before, modulo 2 ^ 64, and the current at a tick is the sum of
--- the changes up to it. A sheet in the making holds them (request 5); so does a row of differences (request 12).
+-- the changes up to it. A sheet in the making holds them.
 use Prim.Native.Nat.{ℕ, zero, suc, _+_, _-_, _%_, _≤_, _<_}
 use mathlib.Core.Bool.{cond}
 use mathlib.Core.List.{List}
 use mathlib.Core.Logic.{_⊎_}
 use mathlib.Core.Path.{_≡_}
 use lib.Dec.{eqb}
-use lib.ListN.{length, getD}
+use lib.ListN.{length}
 use Rattle.laws.specs.Below.{sumBelow}
 use Rattle.block.specs.Limits.{wordLimit}
 use Rattle.sheet.specs.Sheet.{Sheet, sheetIn}

@@ -1,7 +1,5 @@
 -- `current::gate::draw_gate` meets its contract.
 -- Assumes nothing.
-use mathlib.Core.Path.{refl}
-use native.Mathlib.Omega.{arith}
 use borrow.Author.Needs.{needs}
 use borrow.Author.Tests.{not-true}
 use Rattle.current.proofs.Gates.{gate-edges, nothing-drawn, gate-drawn}

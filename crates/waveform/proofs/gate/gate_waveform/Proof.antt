@@ -1,7 +1,7 @@
 -- `waveform::gate::gate_waveform` meets its contract.
 -- Assumes nothing.
 use Prim.Native.Nat.{_+_}
-use mathlib.Core.Path.{ap, sym, _∙_}
+use mathlib.Core.Path.{ap, _∙_}
 use native.Mathlib.Omega.{arith}
 use borrow.Author.Needs.{needs}
 use Rattle.excitation.specs.Excitation.{levelsOf}
