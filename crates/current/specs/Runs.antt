@@ -29,7 +29,7 @@ pub record Shaped (P r f place : ℕ) (shapes : List ℕ) : Type 0 where
   pub low : place ≤ 264
   pub at : (k : ℕ) → k < 264 → getD shapes (place + k) 0 ≡ pulse P r f k
 
--- The level of the shapes k ticks from a place on, and its change from the tick before to the next.
+-- The level of the shapes k ticks from a place on, and its change to the level of the next tick.
 
 abbrev pub levelIn : List ℕ → ℕ → ℕ → ℕ
 levelIn shapes place k = getD shapes (place + k) 0

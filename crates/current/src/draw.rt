@@ -1,6 +1,7 @@
-// Pulses drawn into a sheet in the making, whose words are changes from tick to tick. To add one pulse to the currents is to add its changes
-// to the words. To add the pulses of a run of ticks is to add the pulse itself from the run's first tick on, and to take it away from the
-// tick after the last on, since from one tick to the next one pulse begins and all others go on. Eight words at a time.
+// Pulses drawn into a sheet in the making, whose words are changes from tick to tick, eight words at a time. To add one pulse to the
+// currents is to add its changes to the words. The pulses of a run of ticks have neighbouring ages at each tick: from one tick to the next
+// the first one's age is new among them, and the age that the last one had is gone. So to add them all is to add the pulse itself to the
+// words from the run's first tick on, and to take it away from the tick after the last on.
 ghost use mathlib.Core.Path.{_≡_};
 ghost use Prim.Native.Nat.{_+_, _*_, _≤_, _<_};
 ghost use lib.ListN.{length};

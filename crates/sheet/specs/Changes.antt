@@ -43,6 +43,6 @@ pub record RowsRestored (rows stop : ℕ) (words after : List ℕ) : Type 0 wher
   pub before : (c t : ℕ) → c < rows → t < stop → sheetIn after c t ≡ restoredIn words c t
   pub rest : (c t : ℕ) → c < 16 → t < 512 → (rows ≤ c) ⊎ (stop ≤ t) → sheetIn after c t ≡ sheetIn words c t
 
--- All of them.
+-- All rows.
 abbrev pub Restored : ℕ → List ℕ → List ℕ → Type 0
 Restored = RowsRestored 16

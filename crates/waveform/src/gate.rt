@@ -124,8 +124,8 @@ fn last_change(work: &[u8], net: usize, end: Part, bound: usize, arrival: usize)
     0
 }
 
-// Makes the waveform of a gate. Its pins are the same after tick `last`: no
-// part of their rows is joined that lies after the tick which follows.
+// Makes the waveform of a gate. Its pins are the same after tick `last`: no part of their rows is joined that lies after the tick which
+// follows.
 pub fn gate_waveform(net: Net, gate: Gate, joins: &[u8], hops: usize, work: &mut [u8])
     requires { ⌜ Ready (net .0) gate (now work) × (1 ≤ hops) × (now joins ≡ joinTable) ⌝ }
     ensures { λ _. ⌜ GateMade (net .0) gate hops (now (work .entry)) (now (work .exit)) ⌝ }
