@@ -1,6 +1,6 @@
 -- The greatest currents and drops that a block can have, from the sizes of document 01's numbers ("The block file" and "Levels and
 -- simulation") and from request 5.
-use Prim.Native.Nat.{ℕ, _*_}
+use Prim.Native.Nat.{ℕ, _*_, _-_}
 
 -- Every peak is below this, in microamperes: a peak has two bytes.
 abbrev pub peakLimit : ℕ
@@ -9,7 +9,7 @@ peakLimit = 65536
 -- A gate draws at most this current at a tick: the sum of pulses, none of them above a peak. A pulse of rise r and fall f is above 0 at
 -- r + f − 1 ticks at most, which is 253, so that no more than 253 pulses of a gate meet at a tick.
 abbrev pub gateLimit : ℕ
-gateLimit = 253 * 65535
+gateLimit = 253 * (peakLimit - 1)
 
 -- All gates of a block together, of which there are at most 1,024, draw at most this current at a tick. So does each contact.
 abbrev pub blockLimit : ℕ

@@ -13,14 +13,13 @@ use borrow.Table.Steps.{cases}
 use Rattle.laws.specs.Below.{sumBelow}
 use Rattle.laws.proofs.Below.{sum-same, sum-within, sum-first, sum-few}
 use Rattle.laws.proofs.Tests.{or-fails}
-use Rattle.block.specs.Limits.{gateLimit}
+use Rattle.block.specs.Limits.{peakLimit, gateLimit}
 use Rattle.block.specs.declared.Gate.{Gate}
 use Rattle.current.specs.Current.{Transition, edgePulse, allowedPulse, gateCurrent, transitionsFrom}
 use Rattle.current.specs.Edges.{PulseFields}
 use Rattle.current.specs.Pulse.{pulseAt}
 use Rattle.current.proofs.Edges.{range-of, edge-not-allowed, edge-at-most}
-use Rattle.current.proofs.Pulses.{pulse-at-most, pulse-ends, pulse-waits, pulse-quiet}
-use Rattle.current.proofs.Runs.{at-start}
+use Rattle.current.proofs.Pulses.{pulse-at-most, pulse-at-ends, pulse-waits, pulse-quiet}
 
 -- The transition that a value allows at tick x, if any.
 abbrev pub transitionAt : {A : Type 0} → (A → Bool) → (A → Bool) → ℕ → A → Transition
@@ -150,23 +149,19 @@ module _ {A B : Type 0} (gate : Gate) (rises falls : A → Bool) (rises′ falls
 module _ {gate : Gate} (fields : PulseFields gate) (t : ℕ) where
   ended : (transition : Transition) → transition .tick + gate .rise + gate .fall ≤ t + gate .delay → allowedPulse gate transition t ≡ 0
   ended transition h =
-      let x = transition .tick in
-      let none : (P : ℕ) → P < 65536 → pulseAt P (gate .rise) (gate .fall) (gate .delay) x t ≡ 0 =
-      λ P high. at-start P (gate .rise) (gate .fall) (gate .delay) x t (t + gate .delay - x) (omega arith)
-      ∙ pulse-ends (range-of fields P high) (t + gate .delay - x) (omega arith) in
-      let up = none (gate .peaks .lh) (fields .fits .peak-lh-high) in
-      let down = none (gate .peaks .hl) (fields .fits .peak-hl-high) in
+      let up = pulse-at-ends (range-of fields (gate .peaks .lh) (fields .fits .peak-lh-high)) (gate .delay) (transition .tick) t h in
+      let down = pulse-at-ends (range-of fields (gate .peaks .hl) (fields .fits .peak-hl-high)) (gate .delay) (transition .tick) t h in
       let most = allowed-at-most gate transition t 0 (omega arith) (omega arith) in
       omega arith
 
-  most-allowed : (transition : Transition) → allowedPulse gate transition t ≤ 65535
+  most-allowed : (transition : Transition) → allowedPulse gate transition t ≤ peakLimit - 1
   most-allowed transition =
       let x = transition .tick in
       let lh-high = fields .fits .peak-lh-high in
       let hl-high = fields .fits .peak-hl-high in
       let up = pulse-at-most (range-of fields (gate .peaks .lh) lh-high) (gate .delay) x t in
       let down = pulse-at-most (range-of fields (gate .peaks .hl) hl-high) (gate .delay) x t in
-      allowed-at-most gate transition t 65535 (omega arith) (omega arith)
+      allowed-at-most gate transition t (peakLimit - 1) (omega arith) (omega arith)
 
   pub current-most : {A : Type 0} (rises falls : A → Bool) (values : List A) (d : A)
       → gateCurrent gate (transitionsFrom rises falls 0 values) t ≤ gateLimit
@@ -175,10 +170,10 @@ module _ {gate : Gate} (fields : PulseFields gate) (t : ℕ) where
       let fall = fields .ranges .fall-high in
       let rise-low = fields .ranges .rise-low in
       let few = sum-few (length values) (λ x. allowedPulse gate (transitionAt rises falls x (getD values x d)) t)
-      (t + gate .delay + 1 - (gate .rise + gate .fall)) (gate .rise + gate .fall - 1) 65535
+      (t + gate .delay + 1 - (gate .rise + gate .fall)) (gate .rise + gate .fall - 1) (peakLimit - 1)
       (λ x. most-allowed (transitionAt rises falls x (getD values x d)))
       (λ x h. ended (transitionAt rises falls x (getD values x d)) (omega arith))
       (λ x h. nothing-flows gate (transitionAt rises falls x (getD values x d)) t
       (λ P. pulse-waits P (gate .rise) (gate .fall) (gate .delay) x t (omega arith))) in
       let fewest : gate .rise + gate .fall - 1 ≤ 253 = omega arith in
-      omega (arith, current-sum gate rises falls values d t, mul-le-mul-right 65535 fewest)
+      omega (arith, current-sum gate rises falls values d t, mul-le-mul-right (peakLimit - 1) fewest)

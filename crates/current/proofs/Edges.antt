@@ -27,8 +27,8 @@ use Rattle.current.specs.declared.level.Pulse.{Pulse}
 use Rattle.current.specs.Levels.{InRange, factorOf, Factored}
 use Rattle.current.specs.Pulse.{pulseAt}
 use Rattle.current.specs.Runs.{ShapeMade, Shaped, RunDrawn}
-use Rattle.current.proofs.Pulses.{pulse-at-grows}
-use Rattle.current.proofs.Runs.{same-age, shaped, shape-kept}
+use Rattle.current.proofs.Pulses.{pulse-at-grows, same-age}
+use Rattle.current.proofs.Runs.{shaped, shape-kept}
 
 -- What a gate's fields give to the drawing of its pulses.
 module _ {gate : Gate} (fields : PulseFields gate) where

@@ -75,7 +75,7 @@ module _ {gate : Gate} {net : ℕ} {work words greater lower : List ℕ} (drawab
       let up : RowRead lh net work lower = rw b at other in
       rw (most, least, up .ticks x h, down .ticks x h) (max-comm _ _))
 
-  -- So the pulses of all ticks sum to the gate's current.
+  -- The sets of the net's waveform, tick by tick.
 
   set-at : (x : ℕ) → x < 256 → getD (waveformIn work net .ticks) x empty ≡ setIn work net x
   unfolding waveformIn
@@ -85,6 +85,7 @@ module _ {gate : Gate} {net : ℕ} {work words greater lower : List ℕ} (drawab
   unfolding waveformIn
   ticks-long = list-long 256 (setIn work net)
 
+  -- So the pulses of all ticks sum to the gate's current.
   all-pulses : (t : ℕ) → sumBetween 0 256 (λ x. pulseByRows gate greater lower x t) ≡ gateCurrent gate (transitionsIn work net) t
   unfolding transitionsIn
   all-pulses t =

@@ -105,10 +105,19 @@ module _ {P Q r f : ℕ} (range : InRange P r f) (h : Q ≤ P) where
   unfolding pulseAt
   pulse-at-grows D x t = cases (ltb (t + D) x) (λ b. rw b (omega arith)) (λ b. rw b (pulse-grows (t + D - x)))
 
+-- A pulse from its start on.
+pub at-start : (P r f D x t k : ℕ) → t + D ≡ x + k → pulseAt P r f D x t ≡ pulse P r f k
+unfolding pulseAt
+at-start P r f D x t k e = rw (le-ltb (t + D) x (omega arith)) (ap (pulse P r f) (let z : t + D - x ≡ k = omega arith in z))
+
 -- A pulse has ended where its fall is past.
 pub pulse-quiet : (P r f D x t : ℕ) → x + r + f < t + D → pulseAt P r f D x t ≡ 0
 unfolding pulseAt
 pulse-quiet P r f D x t h = rw (le-ltb (t + D) x (omega arith)) (pulse-over P r f (t + D - x) (omega arith))
+
+-- With its rise and its fall in range, it is 0 where its fall ends.
+pub pulse-at-ends : {P r f : ℕ} → InRange P r f → (D x t : ℕ) → x + r + f ≤ t + D → pulseAt P r f D x t ≡ 0
+pulse-at-ends {P} {r} {f} range D x t h = at-start P r f D x t (t + D - x) (omega arith) ∙ pulse-ends range (t + D - x) (omega arith)
 
 -- A pulse is 0 up to its start.
 pub pulse-waits : (P r f D x t : ℕ) → t + D ≤ x → pulseAt P r f D x t ≡ 0
@@ -119,6 +128,14 @@ pulse-waits P r f D x t h =
     (λ b. let late = ltb-false (t + D) x b in
     let begins : t + D - x ≡ 0 = omega arith in
     rw (b, begins) (pulse-up P r f 0 (omega arith) ∙ level-none P r 0 refl))
+
+-- Pulses that start as long before a tick are the same there.
+pub same-age : (P r f D x t D′ x′ t′ : ℕ) → t + D + x′ ≡ t′ + D′ + x → pulseAt P r f D x t ≡ pulseAt P r f D′ x′ t′
+same-age P r f D x t D′ x′ t′ e =
+    cases (leb (t + D) x)
+    (λ b. let h = leb-true (t + D) x b in pulse-waits P r f D x t h ∙ sym (pulse-waits P r f D′ x′ t′ (omega arith)))
+    (λ b. let h = leb-false (t + D) x b in
+    at-start P r f D x t (t + D - x) (omega arith) ∙ sym (at-start P r f D′ x′ t′ (t + D - x) (omega arith)))
 
 -- The levels that the code takes are those of the pulse.
 module _ {P r f rising falling : ℕ} (ready : Factored P r f rising falling) (k : ℕ) where

@@ -9,7 +9,7 @@ use native.Mathlib.Nat.{le-refl, mod-add-mod, zero-add}
 use native.Mathlib.Omega.{arith}
 use lib.Dec.{ltb}
 use lib.ListN.{length, getD, set}
-use borrow.Author.Tests.{ltb-true, ltb-false, lt-ltb, le-ltb}
+use borrow.Author.Tests.{ltb-true, ltb-false}
 use borrow.Table.Steps.{cases}
 use Rattle.laws.specs.Below.{sumBelow, sumBetween}
 use Rattle.laws.specs.Rewritten.{Rewritten}
@@ -20,7 +20,7 @@ use Rattle.sheet.proofs.Changes.{difference-is, changes-restore, added-same, ch
 use Rattle.current.specs.Levels.{InRange}
 use Rattle.current.specs.Pulse.{pulse, pulseAt}
 use Rattle.current.specs.Runs.{RiseMade, FallMade, ShapeMade, Shaped, levelIn, changeIn, SumsMade, DifferencesMade, RunDrawn}
-use Rattle.current.proofs.Pulses.{pulse-ends, pulse-at-most, pulse-waits}
+use Rattle.current.proofs.Pulses.{pulse-ends, pulse-at-most, pulse-at-ends, pulse-waits, at-start, same-age}
 
 -- The shape of a pulse: its rise and its fall, and nothing where zeros stood.
 pub shape-made : (P r f place : ℕ) {shapes risen after : List ℕ} → RiseMade P r f place shapes risen → FallMade P r f place risen after
@@ -90,24 +90,6 @@ pub change-taken : {next following number level result : ℕ} → next ≡ follo
     → (result + number) % wordLimit ≡ next → result ≡ wrappedDifference following level
 change-taken {level = level} n e small fits r = difference-taken e small fits r ∙ ap (λ x. wrappedDifference x level) n
 
--- A pulse from its start on, and before it.
-
-pub at-start : (P r f D x t k : ℕ) → t + D ≡ x + k → pulseAt P r f D x t ≡ pulse P r f k
-unfolding pulseAt
-at-start P r f D x t k e = rw (le-ltb (t + D) x (omega arith)) (ap (pulse P r f) (let z : t + D - x ≡ k = omega arith in z))
-
-before-start : (P r f D x t : ℕ) → t + D < x → pulseAt P r f D x t ≡ 0
-unfolding pulseAt
-before-start P r f D x t h = rw (lt-ltb (t + D) x h)
-
--- Pulses that start as long before a tick are the same there.
-pub same-age : (P r f D x t D′ x′ t′ : ℕ) → t + D + x′ ≡ t′ + D′ + x → pulseAt P r f D x t ≡ pulseAt P r f D′ x′ t′
-same-age P r f D x t D′ x′ t′ e =
-    cases (ltb (t + D) x)
-    (λ b. let h = ltb-true (t + D) x b in before-start P r f D x t h ∙ sym (before-start P r f D′ x′ t′ (omega arith)))
-    (λ b. let h = ltb-false (t + D) x b in
-    at-start P r f D x t (t + D - x) (omega arith) ∙ sym (at-start P r f D′ x′ t′ (t + D - x) (omega arith)))
-
 -- Over the ticks up to a tick, a pulse sums to what the pulse that starts a tick later does, and its own level there. So the sum of the
 -- pulses of a run at a tick is the difference of two such sums.
 module _ (P r f : ℕ) where
@@ -138,7 +120,7 @@ module _ {P r f place contact first end n : ℕ} {shapes : List ℕ} (range : In
   pulse-fits x t = let high = range .peak-high in let most = pulse-at-most range 0 x t in omega arith
 
   ended : (x t : ℕ) → x + n ≤ t → pulseFrom x t ≡ 0
-  ended x t h = at-start P r f 0 x t (t - x) (omega arith) ∙ pulse-ends range (t - x) (omega arith)
+  ended x t h = pulse-at-ends range 0 x t (omega arith)
 
   level-at : (x k : ℕ) → k < 264 → levelIn shapes place k ≡ pulseFrom x (x + k)
   level-at x k h = shape .at k h ∙ sym (at-start P r f 0 x (x + k) k (omega arith))
