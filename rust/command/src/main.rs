@@ -1,0 +1,7 @@
+//! The command `zimgurav`.
+
+mod number;
+mod sheet;
+mod svg;
+
+fn main() {}

@@ -1,0 +1,33 @@
+//! Numbers as a person reads them.
+
+/// The digits in groups of three: `11,617`.
+pub fn grouped(number: u64) -> String {
+    let digits = number.to_string();
+    let mut grouped = String::new();
+    for (at, digit) in digits.chars().enumerate() {
+        if at > 0 && (digits.len() - at) % 3 == 0 {
+            grouped.push(',');
+        }
+        grouped.push(digit);
+    }
+    grouped
+}
+
+#[cfg(test)]
+mod tests {
+    use super::*;
+
+    #[test]
+    fn groups_of_three() {
+        for (number, digits) in [
+            (0, "0"),
+            (999, "999"),
+            (1_000, "1,000"),
+            (11_617, "11,617"),
+            (100_000, "100,000"),
+            (u64::MAX, "18,446,744,073,709,551,615"),
+        ] {
+            assert_eq!(grouped(number), digits);
+        }
+    }
+}
