@@ -1,0 +1,82 @@
+//! A bench text: its lines and, where it was accepted, the names of its nets.
+
+use zimgurav::{refused, Refusal};
+use zimgurav::{BLOCK_BYTES, RECORD_BYTES};
+
+use crate::cells::Cells;
+use crate::failure::Failure;
+
+/// A bench text, by its lines.
+pub struct BenchText<'a> {
+    /// The text's file.
+    pub name: &'a str,
+    pub bytes: &'a [u8],
+}
+
+impl BenchText<'_> {
+    /// The block file that the text and the list describe.
+    pub fn records(&self, cells: &Cells) -> Result<Vec<u8>, Failure> {
+        let mut records = vec![0; BLOCK_BYTES];
+        let count = zimgurav::bench(self.bytes, &cells.list(), &mut records)
+            .map_err(|refusal| self.refused(refusal, cells))?;
+        records.truncate(RECORD_BYTES * count as usize);
+        Ok(records)
+    }
+
+    /// The refusal, with the line of the text or of the list that it is about.
+    fn refused(&self, refusal: Refusal, cells: &Cells) -> Failure {
+        let place = refusal.place;
+        let (of, at, standing) = match refusal.number {
+            refused::RANGE => (&cells.name[..], Some("row"), cells.line(place).to_string()),
+            refused::LINE | refused::NAME => (self.name, Some("line"), self.line(place as usize)),
+            refused::INPUT | refused::ARRIVAL => {
+                let line = self.giving_lines().nth(place as usize);
+                (self.name, Some("net"), self.line(line.unwrap_or(0)))
+            }
+            _ => {
+                let given = self.giving_lines().count();
+                (self.name, None, format!("The text gives {given} records."))
+            }
+        };
+        Failure::refused(of, refusal, at, &standing)
+    }
+
+    /// A line in words, by its number from 1.
+    fn line(&self, number: usize) -> String {
+        let line = self.lines().nth(number - 1).unwrap_or_default();
+        format!("line {number}: {}", line.escape_ascii())
+    }
+
+    fn lines(&self) -> impl Iterator<Item = &[u8]> {
+        self.bytes.split(|byte| *byte == b'\n')
+    }
+
+    /// The numbers of the lines that give a record, in a text of which no line is refused.
+    fn giving_lines(&self) -> impl Iterator<Item = usize> + '_ {
+        let lines = self.lines().map(said).zip(1..);
+        lines.filter_map(|(said, number)| given_name(&said).map(|_| number))
+    }
+
+    /// The names of the nets of an accepted text.
+    pub fn names(&self) -> Vec<String> {
+        let lines = self.lines().map(said);
+        lines
+            .filter_map(|said| given_name(&said).map(str::to_string))
+            .collect()
+    }
+}
+
+/// What is left of a line without its comment and blanks.
+fn said(line: &[u8]) -> String {
+    let comment = line.iter().position(|byte| *byte == b'#');
+    let line = String::from_utf8_lossy(&line[..comment.unwrap_or(line.len())]);
+    line.replace(['\t', '\r', ' '], "")
+}
+
+/// The name that a line gives, if it is that of an input or a gate.
+fn given_name(said: &str) -> Option<&str> {
+    match said.split_once('=') {
+        Some((name, _)) => Some(name),
+        None => said.strip_prefix("INPUT(")?.strip_suffix(')'),
+    }
+}

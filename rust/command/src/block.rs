@@ -1,0 +1,156 @@
+//! The block that a subcommand is about.
+
+use std::ffi::OsStr;
+use std::path::Path;
+
+use zimgurav::{refused, Counts, Refusal, CONTACTS, RECORD_BYTES};
+
+use crate::bench_text::BenchText;
+use crate::cells::Cells;
+use crate::failure::Failure;
+use crate::files;
+use crate::number::counted;
+use crate::record::{records, Record, KINDS};
+
+/// A block that Read accepted.
+pub struct Block {
+    /// The file that it comes from.
+    pub name: String,
+    pub file: Vec<u8>,
+    pub counts: Counts,
+    /// The nets' names, of a bench text; else none.
+    pub names: Vec<String>,
+}
+
+impl Block {
+    /// Reads a block file, or a bench text with a cell list: of a name that ends in `.bench`, or of
+    /// standard input where a list is given.
+    pub fn load(path: &OsStr, cells: Option<&OsStr>) -> Result<Self, Failure> {
+        let is_text = Path::new(path).extension() == Some(OsStr::new("bench"));
+        match cells {
+            Some(cells) if is_text || path == "-" => Block::of_text(path, cells),
+            None if !is_text => Block::of_file(path),
+            Some(_) => Err(Failure::usage(
+                "--cells is for a bench text, and the name of one ends in .bench",
+            )),
+            None => Err(Failure::usage(
+                "a bench text needs a cell list, --cells LIST",
+            )),
+        }
+    }
+
+    /// Turns a bench text into a block, by a cell list.
+    pub fn of_text(path: &OsStr, cells: &OsStr) -> Result<Self, Failure> {
+        if path == "-" && cells == "-" {
+            let message = "the text and the list cannot both be standard input";
+            return Err(Failure::usage(message));
+        }
+        let cells = Cells::load(cells)?;
+        let (name, bytes) = (files::shown(path), files::read(path)?);
+        let text = BenchText {
+            name: &name,
+            bytes: &bytes,
+        };
+        let (file, names) = (text.records(&cells)?, text.names());
+        Block::read(name, file, names)
+    }
+
+    fn of_file(path: &OsStr) -> Result<Self, Failure> {
+        Block::read(files::shown(path), files::read(path)?, Vec::new())
+    }
+
+    /// Asks Read whether the file is a block.
+    fn read(name: String, file: Vec<u8>, names: Vec<String>) -> Result<Self, Failure> {
+        match zimgurav::read(&file) {
+            Ok(counts) => Ok(Block {
+                name,
+                file,
+                counts,
+                names,
+            }),
+            Err(refusal) => Err(unread(&name, &file, refusal)),
+        }
+    }
+
+    pub fn records(&self) -> impl Iterator<Item = Record<'_>> {
+        records(&self.file)
+    }
+
+    pub fn gates(&self) -> impl Iterator<Item = Record<'_>> {
+        self.records().skip(self.counts.inputs as usize)
+    }
+
+    /// How many gates there are of each kind.
+    pub fn gates_of_kinds(&self) -> [usize; KINDS.len()] {
+        let mut counts = [0; KINDS.len()];
+        for kind in self.gates().filter_map(|gate| gate.kind()) {
+            counts[kind] += 1;
+        }
+        counts
+    }
+
+    /// The contacts that gates are at.
+    pub fn contacts(&self) -> Vec<usize> {
+        let at = |contact: &usize| {
+            let mut contacts = self.gates().map(|gate| usize::from(gate.contact()));
+            contacts.any(|one| one == *contact)
+        };
+        (0..CONTACTS).filter(at).collect()
+    }
+
+    /// The arrival of each net: 0 for an input, and for a gate the greatest of its pins plus its delay.
+    pub fn arrivals(&self) -> Vec<u64> {
+        let mut arrivals = Vec::new();
+        for record in self.records() {
+            let latest = record.pins().iter().map(|pin| arrivals[*pin]).max();
+            arrivals.push(latest.unwrap_or(0) + u64::from(record.delay()));
+        }
+        arrivals
+    }
+
+    /// A net by its number and, of a bench text, its name.
+    pub fn net(&self, net: usize) -> String {
+        match self.names.get(net) {
+            Some(name) => format!("net {net} \"{name}\""),
+            None => format!("net {net}"),
+        }
+    }
+
+    /// The record of a net in words.
+    pub fn net_in_words(&self, net: usize) -> String {
+        let record = self.records().nth(net);
+        let words = record.map_or(String::new(), |record| record.words());
+        format!("{}: {words}", self.net(net))
+    }
+
+    /// How large the block is, in a line.
+    pub fn size(&self) -> String {
+        let Counts { nets, inputs } = self.counts;
+        let counts = [(nets, "net"), (inputs, "input"), (nets - inputs, "gate")];
+        counts
+            .map(|(count, thing)| counted(count, thing))
+            .join(", ")
+    }
+}
+
+/// The refusal of a file, with what stands at its place.
+fn unread(name: &str, file: &[u8], refusal: Refusal) -> Failure {
+    let length = file.len();
+    let (at, net) = match refusal.number {
+        refused::KIND..=refused::ARRIVAL => (Some("net"), refusal.place as usize),
+        _ => (None, 0),
+    };
+    let standing = match (refusal.number, records(file).nth(net)) {
+        (refused::LENGTH, _) => {
+            let (whole, rest) = (length / RECORD_BYTES, length % RECORD_BYTES);
+            format!("It has {length} bytes: {whole} records and {rest} bytes.")
+        }
+        (refused::RECORDS, _) => format!("It has {} records.", length / RECORD_BYTES),
+        (_, Some(record)) => {
+            let (words, bytes) = (record.words(), record.bytes());
+            format!("net {net}: {words}\nits bytes: {bytes}")
+        }
+        (_, None) => "It is empty.".to_string(),
+    };
+    Failure::refused(name, refusal, at, &standing)
+}

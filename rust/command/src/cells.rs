@@ -1,0 +1,91 @@
+//! The cell list: what a bench text does not say of its gates.
+//!
+//! A text with a line for each kind of gate: the kind's word, contact, delay, rise, fall, the peak where the output
+//! rises and the peak where it falls.
+
+use std::ffi::OsStr;
+
+use zimgurav::{LIST_BYTES, LIST_ROW_BYTES};
+
+use crate::failure::Failure;
+use crate::files;
+use crate::record::KINDS;
+
+/// What the fields of a line are after its kind, and the most that a row of the list has room for.
+const FIELDS: [(&str, u16); 6] = [
+    ("contact", u8::MAX as u16),
+    ("delay", u8::MAX as u16),
+    ("rise", u8::MAX as u16),
+    ("fall", u8::MAX as u16),
+    ("peak lh", u16::MAX),
+    ("peak hl", u16::MAX),
+];
+
+/// A row of the list, and the line that gives it.
+struct Row {
+    bytes: [u8; LIST_ROW_BYTES],
+    line: String,
+}
+
+/// A cell list that was read.
+pub struct Cells {
+    /// The list's file.
+    pub name: String,
+    /// A row for each kind, AND first.
+    rows: [Row; KINDS.len()],
+}
+
+impl Cells {
+    pub fn load(path: &OsStr) -> Result<Self, Failure> {
+        let name = files::shown(path);
+        let wrong = |message: String| Failure::file(&name, message);
+        let mut rows: [Option<Row>; KINDS.len()] = Default::default();
+        for (number, line) in files::lines(&files::read(path)?) {
+            let at = |message: String| wrong(format!("line {number}: {message}: {line}"));
+            let (kind, bytes) = row(&line).map_err(at)?;
+            let line = format!("line {number}: {line}");
+            if rows[kind].replace(Row { bytes, line }).is_some() {
+                let message = format!("line {number} gives {} a second time", KINDS[kind]);
+                return Err(wrong(message));
+            }
+        }
+        if let Some(missing) = rows.iter().position(Option::is_none) {
+            return Err(wrong(format!("no line gives {}", KINDS[missing])));
+        }
+        let rows = rows.map(|row| row.expect("no row is missing"));
+        Ok(Cells { name, rows })
+    }
+
+    /// The list as the library takes it.
+    pub fn list(&self) -> Vec<u8> {
+        let list: Vec<u8> = self.rows.iter().flat_map(|row| row.bytes).collect();
+        debug_assert_eq!(list.len(), LIST_BYTES);
+        list
+    }
+
+    /// The line that gives a row.
+    pub fn line(&self, row: u64) -> &str {
+        &self.rows[row as usize].line
+    }
+}
+
+/// The kind that a line is about, and its row of the list.
+fn row(line: &str) -> Result<(usize, [u8; LIST_ROW_BYTES]), String> {
+    let words: Vec<&str> = line.split_whitespace().collect();
+    let (kind, fields) = words.split_first().ok_or("an empty line")?;
+    let kind = KINDS.iter().position(|known| known == kind);
+    let kind = kind.ok_or("it begins with no kind of gate")?;
+    if fields.len() != FIELDS.len() {
+        return Err("a kind has contact, delay, rise, fall, peak lh and peak hl".to_string());
+    }
+    let mut numbers = [0; FIELDS.len()];
+    for ((number, word), (name, most)) in numbers.iter_mut().zip(fields).zip(FIELDS) {
+        let read = word.parse().ok().filter(|number| *number <= most);
+        *number = read.ok_or_else(|| format!("{name} {word} is no number from 0 to {most}"))?;
+    }
+    let [contact, delay, rise, fall, peak_lh, peak_hl] = numbers.map(u16::to_le_bytes);
+    let bytes = [
+        contact[0], delay[0], rise[0], fall[0], peak_lh[0], peak_lh[1], peak_hl[0], peak_hl[1],
+    ];
+    Ok((kind, bytes))
+}

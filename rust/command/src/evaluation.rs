@@ -1,0 +1,138 @@
+//! The calls that draw a sheet, with the buffers that they are lent.
+
+use zimgurav::{
+    refused, store_bytes, work_bytes, Currents, Found, Refusal, MOST_BUDGET, PATTERN_BYTES,
+};
+
+use crate::block::Block;
+use crate::failure::Failure;
+use crate::given::Given;
+use crate::pattern::Pattern;
+use crate::progress;
+use crate::sheet::Sheet;
+use crate::table::Table;
+
+/// What the calls take beside a block. A call reads what it needs.
+pub struct Setting {
+    pub hop_limit: u64,
+    pub ratio: u64,
+    pub budget: u64,
+    pub table: Table,
+}
+
+impl Setting {
+    /// The values of the options, by default those of the program `estimate`.
+    pub fn given(given: &Given) -> Result<Self, Failure> {
+        Ok(Setting {
+            hop_limit: given.number("--hop-limit", 10)?,
+            ratio: given.number("--ratio", 1_000)?,
+            budget: given.number("--budget", 200)?,
+            table: Table::given(given)?,
+        })
+    }
+
+    /// The refusal of an argument, with its value.
+    fn refused(&self, block: &Block, refusal: Refusal) -> Failure {
+        let standing = match refusal.number {
+            refused::HOP_LIMIT => format!("It is {}.", self.hop_limit),
+            refused::TABLE => format!("It is {}.", self.table.words),
+            refused::RATIO => format!("It is {}.", self.ratio),
+            refused::BUDGET => format!("It is {}.", self.budget),
+            _ => String::new(),
+        };
+        Failure::refused(&block.name, refusal, None, &standing)
+    }
+}
+
+/// A drop and its sheet, of an envelope or of a simulation.
+pub struct Drawn {
+    /// In nanovolts.
+    pub drop: u64,
+    pub sheet: Sheet,
+}
+
+impl Drawn {
+    fn new(currents: Currents, words: Vec<zimgurav::Word>) -> Self {
+        Drawn {
+            drop: currents.drop,
+            sheet: Sheet::new(words, currents.quiet),
+        }
+    }
+}
+
+/// The envelope of a block.
+pub fn envelope(block: &Block, setting: &Setting) -> Result<Drawn, Failure> {
+    let mut words = Sheet::lent();
+    let currents = zimgurav::envelope(
+        &block.file,
+        setting.hop_limit,
+        &setting.table.resistances,
+        &mut words,
+        &mut vec![0; work_bytes(block.counts.nets)],
+    );
+    let currents = currents.map_err(|refusal| setting.refused(block, refusal))?;
+    Ok(Drawn::new(currents, words))
+}
+
+/// The simulation of a pattern.
+pub fn simulate(block: &Block, setting: &Setting, pattern: &Pattern) -> Result<Drawn, Failure> {
+    let mut words = Sheet::lent();
+    let currents = zimgurav::simulate(
+        &block.file,
+        &setting.table.resistances,
+        &mut words,
+        &pattern.lent(),
+        &mut vec![0; work_bytes(block.counts.nets)],
+    );
+    match currents {
+        Ok(currents) => Ok(Drawn::new(currents, words)),
+        Err(refusal) if refusal.number == refused::PATTERN => {
+            let net = refusal.place as usize;
+            let given = pattern.words().nth(net).unwrap_or_default();
+            let standing = format!("{}; the pattern has {given} there", block.net_in_words(net));
+            let failure = Failure::refused(&block.name, refusal, Some("net"), &standing);
+            Err(failure)
+        }
+        Err(refusal) => Err(setting.refused(block, refusal)),
+    }
+}
+
+/// What a search found.
+pub struct Searched {
+    pub found: Found,
+    pub ceiling: Sheet,
+    /// The worst pattern found.
+    pub pattern: Pattern,
+    /// The currents of that pattern.
+    pub simulated: Drawn,
+}
+
+/// Searches a block, and simulates the pattern that the search hands over.
+pub fn search(block: &Block, setting: &Setting) -> Result<Searched, Failure> {
+    let mut words = Sheet::lent();
+    let mut bytes = [0; PATTERN_BYTES];
+    let mut work = vec![0; work_bytes(block.counts.nets)];
+    // A budget above the most is refused before anyone looks at the store.
+    let mut store = vec![0; store_bytes(setting.budget.min(MOST_BUDGET))];
+    let found = progress::watched(|| {
+        zimgurav::search(
+            &block.file,
+            setting.hop_limit,
+            &setting.table.resistances,
+            setting.ratio,
+            setting.budget,
+            &mut words,
+            &mut bytes,
+            &mut work,
+            &mut store,
+        )
+    });
+    let found = found.map_err(|refusal| setting.refused(block, refusal))?;
+    let pattern = Pattern::found(block, &bytes);
+    Ok(Searched {
+        ceiling: Sheet::new(words, found.quiet),
+        simulated: simulate(block, setting, &pattern)?,
+        pattern,
+        found,
+    })
+}

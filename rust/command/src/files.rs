@@ -1,0 +1,60 @@
+//! The files that the command reads and writes.
+
+use std::ffi::OsStr;
+use std::fs::{self, File};
+use std::io::{self, Read};
+use std::path::Path;
+
+use crate::failure::Failure;
+
+/// The most bytes of a file that is read: far more than any block or list has, and any bench text that a person
+/// or a tool would write, and few enough that a wrong name does not fill the memory.
+const MOST_BYTES: u64 = 64 << 20;
+
+/// How a file is named in what the command prints.
+pub fn shown(path: &OsStr) -> String {
+    if path == "-" {
+        "standard input".to_string()
+    } else {
+        path.display().to_string()
+    }
+}
+
+/// The bytes of a file; `-` is standard input.
+pub fn read(path: &OsStr) -> Result<Vec<u8>, Failure> {
+    let read = if path == "-" {
+        bytes(io::stdin().lock())
+    } else {
+        File::open(path).and_then(bytes)
+    };
+    let name = shown(path);
+    let bytes = read.map_err(|error| Failure::file(&name, error))?;
+    if bytes.len() as u64 > MOST_BYTES {
+        let message = format_args!("longer than {} MiB", MOST_BYTES >> 20);
+        return Err(Failure::file(&name, message));
+    }
+    Ok(bytes)
+}
+
+/// All bytes, or one more than a file may have.
+fn bytes(source: impl Read) -> io::Result<Vec<u8>> {
+    let mut bytes = Vec::new();
+    source.take(MOST_BYTES + 1).read_to_end(&mut bytes)?;
+    Ok(bytes)
+}
+
+/// The lines of a text, each with its number from 1, without comments, which begin at `#`; lines that say
+/// nothing else are left out. A byte that is no text reads as a mark of its own.
+pub fn lines(bytes: &[u8]) -> Vec<(usize, String)> {
+    let text = String::from_utf8_lossy(bytes);
+    let numbered = text.lines().zip(1..).map(|(line, number)| {
+        let said = line.split('#').next().unwrap_or_default();
+        (number, said.trim().to_string())
+    });
+    numbered.filter(|(_, said)| !said.is_empty()).collect()
+}
+
+/// Writes a file.
+pub fn write(path: &Path, contents: impl AsRef<[u8]>) -> Result<(), Failure> {
+    fs::write(path, contents).map_err(|error| Failure::file(&path.display().to_string(), error))
+}

@@ -1,0 +1,45 @@
+//! What `--help` prints.
+
+use crate::subcommand::{Subcommand, SUBCOMMANDS};
+
+/// The help of the whole command.
+pub fn whole() -> String {
+    let lines = SUBCOMMANDS.iter().map(|subcommand| {
+        let usage = format!("{} {}", subcommand.name, subcommand.operands);
+        format!("  {usage:<22} {}\n", subcommand.summary)
+    });
+    let lines: String = lines.collect();
+    format!(
+        "\
+zimgurav: proved ceilings on the supply current of a block of gates
+
+usage: zimgurav SUBCOMMAND OPERANDS OPTIONS
+
+{lines}
+'zimgurav SUBCOMMAND --help' says more of each, 'zimgurav --version' the version.
+The exit status is 0 for an answer, 1 for a refusal, and 2 where no call was made or
+an answer could not be written.
+"
+    )
+}
+
+/// The help of a subcommand.
+pub fn of(subcommand: &Subcommand) -> String {
+    let Subcommand {
+        name,
+        operands,
+        summary,
+        about,
+        choices,
+        ..
+    } = subcommand;
+    let options = choices.iter().map(|choice| {
+        let written = format!("{} {}", choice.name, choice.value.unwrap_or_default());
+        format!("  {written:<16} {}\n", choice.meaning)
+    });
+    let options: String = options.collect();
+    let usage = [name, operands, "OPTIONS"].into_iter();
+    let usage: Vec<&str> = usage.filter(|word| !word.is_empty()).collect();
+    let usage = usage.join(" ");
+    format!("usage: zimgurav {usage}\n\n{summary}\n\n{about}\n\n{options}")
+}

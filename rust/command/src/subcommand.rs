@@ -1,0 +1,262 @@
+//! The subcommands: what each takes, and what it does.
+
+use std::ffi::OsStr;
+use std::path::Path;
+
+use crate::block::Block;
+use crate::evaluation::{self, Setting};
+use crate::failure::Failure;
+use crate::given::{Choice, Given};
+use crate::number::grouped;
+use crate::options::*;
+use crate::pattern::Pattern;
+use crate::sheet::Sheet;
+use crate::svg::{self, Picture};
+use crate::{csv, files, output, report, selftest, summary, vcd};
+
+/// One of the things that the command does.
+pub struct Subcommand {
+    pub name: &'static str,
+    /// What stands after the name, before the options.
+    pub operands: &'static str,
+    /// What it does, in a line.
+    pub summary: &'static str,
+    /// What else a user has to know.
+    pub about: &'static str,
+    pub choices: &'static [&'static Choice],
+    pub run: fn(&Given) -> Result<(), Failure>,
+}
+
+/// What is said of a block operand.
+const OF_BLOCKS: &str = "\
+BLOCK is a block file, or a bench text with --cells LIST: a file whose name ends
+in .bench. - is standard input, a bench text where --cells is given.";
+
+pub const SUBCOMMANDS: [Subcommand; 7] = [
+    Subcommand {
+        name: "read",
+        operands: "BLOCK",
+        summary: "Says what a block holds.",
+        about: OF_BLOCKS,
+        choices: &[&CELLS, &NETS],
+        run: read,
+    },
+    Subcommand {
+        name: "bench",
+        operands: "TEXT",
+        summary: "Turns a bench text into a block file.",
+        about: "\
+The cell list has a line for each kind of gate (AND, NAND, OR, NOR, XOR, XNOR, NOT,
+BUF): the kind, its contact (0 to 15), delay (1 to 63 ticks), rise and fall (1 to
+127 ticks), and the peaks in microamperes where the output rises and where it falls.
+# begins a comment. TEXT may be - for standard input.",
+        choices: &[&CELLS, &BLOCK_FILE],
+        run: bench,
+    },
+    Subcommand {
+        name: "envelope",
+        operands: "BLOCK",
+        summary: "Gives a ceiling on the currents and the drop of every pattern.",
+        about: OF_BLOCKS,
+        choices: &[&CELLS, &HOP_LIMIT, &TABLE, &OHMS, &SVG, &CSV, &VCD],
+        run: envelope,
+    },
+    Subcommand {
+        name: "simulate",
+        operands: "BLOCK PATTERN",
+        summary: "Gives the currents and the drop of one pattern.",
+        about: "\
+PATTERN is a word for each input, l, h, hl or lh, or a file of such words, as search
+--pattern writes it. In a file # begins a comment.
+
+BLOCK is a block file, or a bench text with --cells LIST: a file whose name ends
+in .bench. - is standard input, a bench text where --cells is given.",
+        choices: &[&CELLS, &TABLE, &OHMS, &SVG, &CSV, &VCD],
+        run: simulate,
+    },
+    Subcommand {
+        name: "search",
+        operands: "BLOCK",
+        summary: "Tightens the ceiling, and gives the worst pattern that it found.",
+        about: OF_BLOCKS,
+        choices: &[
+            &CELLS, &HOP_LIMIT, &TABLE, &OHMS, &RATIO, &BUDGET, &PATTERN, &SVG, &CSV, &VCD,
+        ],
+        run: search,
+    },
+    Subcommand {
+        name: "report",
+        operands: "BLOCK",
+        summary: "Writes a page with the numbers, the pictures and the tables.",
+        about: OF_BLOCKS,
+        choices: &[&CELLS, &HOP_LIMIT, &TABLE, &OHMS, &RATIO, &BUDGET, &PAGE],
+        run: report,
+    },
+    Subcommand {
+        name: "selftest",
+        operands: "",
+        summary: "Makes the stored calls, and gives one digest of all that they answer.",
+        about: "\
+Two builds that print the same line give the same answers, sheets, patterns, stores
+and records on all of these calls.",
+        choices: &[&ANSWERS],
+        run: selftest,
+    },
+];
+
+/// The one operand that a subcommand takes.
+fn operand(given: &Given) -> Result<&OsStr, Failure> {
+    match &given.operands[..] {
+        [operand] => Ok(operand),
+        [] => Err(Failure::usage("an operand is missing")),
+        [_, extra, ..] => Err(Failure::usage(format_args!(
+            "{} is an operand too many",
+            extra.display()
+        ))),
+    }
+}
+
+/// The value of an option that may not be left out.
+fn needed<'a>(given: &'a Given, choice: &Choice) -> Result<&'a OsStr, Failure> {
+    given.value(choice.name).ok_or_else(|| {
+        let what = choice.value.unwrap_or_default();
+        Failure::usage(format_args!("{} {what} is missing", choice.name))
+    })
+}
+
+fn block(given: &Given, path: &OsStr) -> Result<Block, Failure> {
+    Block::load(path, given.value(CELLS.name))
+}
+
+fn read(given: &Given) -> Result<(), Failure> {
+    let block = block(given, operand(given)?)?;
+    let mut text = format!("{}\n{}", block.name, summary::of_block(&block));
+    if given.has(NETS.name) {
+        text += "\n";
+        text += &summary::of_nets(&block);
+    }
+    output::print(&text)
+}
+
+fn bench(given: &Given) -> Result<(), Failure> {
+    let (text, cells) = (operand(given)?, needed(given, &CELLS)?);
+    needed(given, &BLOCK_FILE)?;
+    let path = given.written_file(BLOCK_FILE.name)?;
+    let block = Block::of_text(text, cells)?;
+    if let Some(path) = path {
+        files::write(path, &block.file)?;
+    }
+    output::print(&format!("{}: {}\n", block.name, block.size()))
+}
+
+fn envelope(given: &Given) -> Result<(), Failure> {
+    let written = Written::given(given)?;
+    let setting = Setting::given(given)?;
+    let block = block(given, operand(given)?)?;
+    let ceiling = evaluation::envelope(&block, &setting)?;
+    let heading = summary::heading(&block, &summary::envelope_setting(&setting));
+    output::print(&(heading + &summary::of_envelope(&block, &ceiling)))?;
+    written.write(&Picture {
+        title: &format!("Envelope of {}", block.name),
+        caption: &format!("No pattern drops more than {} nV.", grouped(ceiling.drop)),
+        contacts: &block.contacts(),
+        ceiling: Some(&ceiling.sheet),
+        simulated: None,
+    })
+}
+
+fn simulate(given: &Given) -> Result<(), Failure> {
+    let written = Written::given(given)?;
+    let setting = Setting::given(given)?;
+    let [path, pattern @ ..] = &given.operands[..] else {
+        return Err(Failure::usage("an operand is missing"));
+    };
+    if pattern.is_empty() {
+        return Err(Failure::usage("the pattern is missing"));
+    }
+    let block = block(given, path)?;
+    let pattern = Pattern::given(&block, pattern)?;
+    let simulated = evaluation::simulate(&block, &setting, &pattern)?;
+    let heading = summary::heading(&block, &setting.table.words);
+    output::print(&(heading + &summary::of_simulation(&block, &pattern, &simulated)))?;
+    written.write(&Picture {
+        title: &format!("Simulation of {}", block.name),
+        caption: &format!("The pattern drops {} nV.", grouped(simulated.drop)),
+        contacts: &block.contacts(),
+        ceiling: None,
+        simulated: Some(&simulated.sheet),
+    })
+}
+
+fn search(given: &Given) -> Result<(), Failure> {
+    let written = Written::given(given)?;
+    let pattern = given.written_file(PATTERN.name)?;
+    let setting = Setting::given(given)?;
+    let block = block(given, operand(given)?)?;
+    let searched = evaluation::search(&block, &setting)?;
+    let heading = summary::heading(&block, &summary::search_setting(&setting));
+    output::print(&(heading + &summary::of_search(&block, &setting, &searched)))?;
+    if let Some(path) = pattern {
+        files::write(path, searched.pattern.file(&block))?;
+    }
+    written.write(&Picture {
+        title: &format!("Search of {}", block.name),
+        caption: &summary::bounds(&searched.found),
+        contacts: &block.contacts(),
+        ceiling: Some(&searched.ceiling),
+        simulated: Some(&searched.simulated.sheet),
+    })
+}
+
+fn report(given: &Given) -> Result<(), Failure> {
+    needed(given, &PAGE)?;
+    let path = given.written_file(PAGE.name)?;
+    let setting = Setting::given(given)?;
+    let block = block(given, operand(given)?)?;
+    let page = report::page(&block, &setting)?;
+    path.map_or(Ok(()), |path| files::write(path, page))
+}
+
+fn selftest(given: &Given) -> Result<(), Failure> {
+    if let [extra, ..] = &given.operands[..] {
+        let message = format_args!("{} is an operand too many", extra.display());
+        return Err(Failure::usage(message));
+    }
+    selftest::run(given.written_file(ANSWERS.name)?)
+}
+
+/// The files that the options ask for.
+struct Written<'a> {
+    svg: Option<&'a Path>,
+    csv: Option<&'a Path>,
+    vcd: Option<&'a Path>,
+}
+
+impl<'a> Written<'a> {
+    fn given(given: &'a Given) -> Result<Self, Failure> {
+        Ok(Written {
+            svg: given.written_file(SVG.name)?,
+            csv: given.written_file(CSV.name)?,
+            vcd: given.written_file(VCD.name)?,
+        })
+    }
+
+    /// Writes them. The comma-separated values are those of the ceiling, where there is one.
+    fn write(&self, picture: &Picture) -> Result<(), Failure> {
+        if let Some(path) = self.svg {
+            files::write(path, svg::draw(picture))?;
+        }
+        let named = [("ceiling", picture.ceiling), ("pattern", picture.simulated)];
+        let sheets: Vec<(&str, &Sheet)> = named
+            .into_iter()
+            .filter_map(|(name, sheet)| Some((name, sheet?)))
+            .collect();
+        if let (Some(path), [(_, sheet), ..]) = (self.csv, &sheets[..]) {
+            files::write(path, csv::written(sheet))?;
+        }
+        if let Some(path) = self.vcd {
+            files::write(path, vcd::written(picture.contacts, &sheets))?;
+        }
+        Ok(())
+    }
+}
