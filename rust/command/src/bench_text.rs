@@ -1,10 +1,10 @@
 //! A bench text: its lines and, where it was accepted, the names of its nets.
 
-use zimgurav::{refused, Refusal};
-use zimgurav::{BLOCK_BYTES, RECORD_BYTES};
+use zimgurav::{refused, Refusal, BLOCK_BYTES, RECORD_BYTES};
 
 use crate::cells::Cells;
 use crate::failure::Failure;
+use crate::number::counted;
 
 /// A bench text, by its lines.
 pub struct BenchText<'a> {
@@ -34,8 +34,8 @@ impl BenchText<'_> {
                 (self.name, Some("net"), self.line(line.unwrap_or(0)))
             }
             _ => {
-                let given = self.giving_lines().count();
-                (self.name, None, format!("The text gives {given} records."))
+                let given = counted(self.giving_lines().count() as u64, "record");
+                (self.name, None, format!("the text gives {given}"))
             }
         };
         Failure::refused(of, refusal, at, &standing)

@@ -142,15 +142,16 @@ fn unread(name: &str, file: &[u8], refusal: Refusal) -> Failure {
     };
     let standing = match (refusal.number, records(file).nth(net)) {
         (refused::LENGTH, _) => {
-            let (whole, rest) = (length / RECORD_BYTES, length % RECORD_BYTES);
-            format!("It has {length} bytes: {whole} records and {rest} bytes.")
+            let records = counted((length / RECORD_BYTES) as u64, "record");
+            let rest = counted((length % RECORD_BYTES) as u64, "byte");
+            format!("the file has {records} and {rest} more")
         }
-        (refused::RECORDS, _) => format!("It has {} records.", length / RECORD_BYTES),
+        (refused::RECORDS, _) => format!("the file has {} records", length / RECORD_BYTES),
         (_, Some(record)) => {
             let (words, bytes) = (record.words(), record.bytes());
             format!("net {net}: {words}\nits bytes: {bytes}")
         }
-        (_, None) => "It is empty.".to_string(),
+        (_, None) => "the file is empty".to_string(),
     };
     Failure::refused(name, refusal, at, &standing)
 }

@@ -34,10 +34,10 @@ impl Setting {
     /// The refusal of an argument, with its value.
     fn refused(&self, block: &Block, refusal: Refusal) -> Failure {
         let standing = match refusal.number {
-            refused::HOP_LIMIT => format!("It is {}.", self.hop_limit),
-            refused::TABLE => format!("It is {}.", self.table.words),
-            refused::RATIO => format!("It is {}.", self.ratio),
-            refused::BUDGET => format!("It is {}.", self.budget),
+            refused::HOP_LIMIT => format!("the hop limit is {}", self.hop_limit),
+            refused::TABLE => format!("the table is {}", self.table.words),
+            refused::RATIO => format!("the ratio is {}", self.ratio),
+            refused::BUDGET => format!("the budget is {}", self.budget),
             _ => String::new(),
         };
         Failure::refused(&block.name, refusal, None, &standing)

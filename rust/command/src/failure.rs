@@ -30,8 +30,9 @@ impl Failure {
             format!(" at {name} {}", refusal.place)
         });
         let meaning = refused::meaning(number).unwrap_or("no such refusal is known");
+        let standing = standing.replace('\n', "\n  ");
         Failure {
-            message: format!("{of}: refused {number}{place}: {meaning}\n{standing}"),
+            message: format!("{of}: refused {number}{place}: {meaning}\n  {standing}"),
             kind: Kind::Refused,
         }
     }

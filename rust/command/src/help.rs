@@ -6,7 +6,7 @@ use crate::subcommand::{Subcommand, SUBCOMMANDS};
 pub fn whole() -> String {
     let lines = SUBCOMMANDS.iter().map(|subcommand| {
         let usage = format!("{} {}", subcommand.name, subcommand.operands);
-        format!("  {usage:<22} {}\n", subcommand.summary)
+        format!("  {usage:<23} {}\n", subcommand.summary)
     });
     let lines: String = lines.collect();
     format!(

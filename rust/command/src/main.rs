@@ -53,7 +53,8 @@ fn run(arguments: Vec<OsString>) -> Result<(), Failure> {
         return Err(Failure::usage(message));
     }
     let Some((name, rest)) = arguments.split_first() else {
-        return Err(Failure::usage(help::whole()));
+        let message = format!("a subcommand is missing\n\n{}", help::whole());
+        return Err(Failure::usage(message));
     };
     if is_help(name) {
         return output::print(&help::whole());

@@ -11,6 +11,7 @@ use crate::number::grouped;
 use crate::options::*;
 use crate::pattern::Pattern;
 use crate::sheet::Sheet;
+use crate::summary::Numbers;
 use crate::svg::{self, Picture};
 use crate::{csv, files, output, report, selftest, summary, vcd};
 
@@ -130,10 +131,10 @@ fn block(given: &Given, path: &OsStr) -> Result<Block, Failure> {
 
 fn read(given: &Given) -> Result<(), Failure> {
     let block = block(given, operand(given)?)?;
-    let mut text = format!("{}\n{}", block.name, summary::of_block(&block));
+    let mut text = format!("{}\n", block.name);
+    text += &summary::lines(&summary::of_block(&block));
     if given.has(NETS.name) {
-        text += "\n";
-        text += &summary::of_nets(&block);
+        text += &format!("\n{}\n", summary::nets(&block).join("\n"));
     }
     output::print(&text)
 }
@@ -154,8 +155,12 @@ fn envelope(given: &Given) -> Result<(), Failure> {
     let setting = Setting::given(given)?;
     let block = block(given, operand(given)?)?;
     let ceiling = evaluation::envelope(&block, &setting)?;
-    let heading = summary::heading(&block, &summary::envelope_setting(&setting));
-    output::print(&(heading + &summary::of_envelope(&block, &ceiling)))?;
+    print_answer(
+        &block,
+        &summary::envelope_setting(&setting),
+        &summary::of_envelope(&ceiling),
+        &[("at most", &ceiling.sheet)],
+    )?;
     written.write(&Picture {
         title: &format!("Envelope of {}", block.name),
         caption: &format!("No pattern drops more than {} nV.", grouped(ceiling.drop)),
@@ -177,8 +182,12 @@ fn simulate(given: &Given) -> Result<(), Failure> {
     let block = block(given, path)?;
     let pattern = Pattern::given(&block, pattern)?;
     let simulated = evaluation::simulate(&block, &setting, &pattern)?;
-    let heading = summary::heading(&block, &setting.table.words);
-    output::print(&(heading + &summary::of_simulation(&block, &pattern, &simulated)))?;
+    print_answer(
+        &block,
+        &setting.table.words,
+        &summary::of_simulation(&pattern, &simulated),
+        &[("greatest", &simulated.sheet)],
+    )?;
     written.write(&Picture {
         title: &format!("Simulation of {}", block.name),
         caption: &format!("The pattern drops {} nV.", grouped(simulated.drop)),
@@ -194,8 +203,15 @@ fn search(given: &Given) -> Result<(), Failure> {
     let setting = Setting::given(given)?;
     let block = block(given, operand(given)?)?;
     let searched = evaluation::search(&block, &setting)?;
-    let heading = summary::heading(&block, &summary::search_setting(&setting));
-    output::print(&(heading + &summary::of_search(&block, &setting, &searched)))?;
+    print_answer(
+        &block,
+        &summary::search_setting(&setting),
+        &summary::of_search(&setting, &searched),
+        &[
+            ("at most", &searched.ceiling),
+            ("pattern", &searched.simulated.sheet),
+        ],
+    )?;
     if let Some(path) = pattern {
         files::write(path, searched.pattern.file(&block))?;
     }
@@ -223,6 +239,20 @@ fn selftest(given: &Given) -> Result<(), Failure> {
         return Err(Failure::usage(message));
     }
     selftest::run(given.written_file(ANSWERS.name)?)
+}
+
+/// Prints what was called on which block, what it answered, and the greatest currents of its sheets.
+fn print_answer(
+    block: &Block,
+    setting: &str,
+    numbers: &Numbers,
+    sheets: &[(&str, &Sheet)],
+) -> Result<(), Failure> {
+    let (name, size, numbers) = (&block.name, block.size(), summary::lines(numbers));
+    let currents = summary::greatest_currents(block, sheets).aligned();
+    output::print(&format!(
+        "{name}: {size}\n{setting}\n\n{numbers}\n{currents}"
+    ))
 }
 
 /// The files that the options ask for.

@@ -1,9 +1,11 @@
-//! What the subcommands print: the numbers of a call, with their units.
+//! The numbers of a block and of a call in words, with their units.
 
-use zimgurav::{Found, Outcome};
+use std::iter;
+
+use zimgurav::{Found, Outcome, Word};
 
 use crate::block::Block;
-use crate::columns;
+use crate::columns::Columns;
 use crate::evaluation::{Drawn, Searched, Setting};
 use crate::excitation;
 use crate::number::{counted, grouped};
@@ -11,10 +13,21 @@ use crate::pattern::Pattern;
 use crate::record::KINDS;
 use crate::sheet::Sheet;
 
+/// Numbers in words, each after its name.
+pub type Numbers = Vec<(&'static str, String)>;
+
+/// The numbers as lines of text.
+pub fn lines(numbers: &Numbers) -> String {
+    let lines = numbers
+        .iter()
+        .map(|(name, words)| format!("{name:<10}   {words}\n"));
+    lines.collect()
+}
+
 /// What a block holds.
-pub fn of_block(block: &Block) -> String {
-    let kinds = block.gates_of_kinds();
-    let kinds = KINDS.iter().zip(kinds).filter(|(_, count)| *count > 0);
+pub fn of_block(block: &Block) -> Numbers {
+    let kinds = KINDS.iter().zip(block.gates_of_kinds());
+    let kinds = kinds.filter(|(_, count)| *count > 0);
     let kinds: Vec<String> = kinds
         .map(|(kind, count)| format!("{} {kind}", grouped(count as u64)))
         .collect();
@@ -26,7 +39,7 @@ pub fn of_block(block: &Block) -> String {
         _ => "no gates".to_string(),
     };
     let gates = of_gates.len() as u64;
-    [
+    vec![
         ("nets", grouped(block.counts.nets)),
         ("inputs", with_parts(block.counts.inputs, &sets(block))),
         ("gates", with_parts(gates, &kinds.join(", "))),
@@ -36,8 +49,6 @@ pub fn of_block(block: &Block) -> String {
             with_parts(contacts.len() as u64, &contacts.join(", ")),
         ),
     ]
-    .map(|(name, value)| labelled(name, &value))
-    .concat()
 }
 
 /// A number and, where there are any, its parts.
@@ -59,22 +70,17 @@ fn sets(block: &Block) -> String {
 }
 
 /// The records in words, with the arrivals of the gates.
-pub fn of_nets(block: &Block) -> String {
+pub fn nets(block: &Block) -> Vec<String> {
     let nets = block.arrivals().into_iter().enumerate();
     let lines = nets.map(|(net, arrival)| {
         let words = block.net_in_words(net);
         if net < block.counts.inputs as usize {
-            format!("{words}\n")
+            words
         } else {
-            format!("{words}; arrives at tick {arrival}\n")
+            format!("{words}; arrives at tick {arrival}")
         }
     });
     lines.collect()
-}
-
-/// What was called on which block, and with which values.
-pub fn heading(block: &Block, setting: &str) -> String {
-    format!("{}: {}\n{setting}\n\n", block.name, block.size())
 }
 
 /// The values of an envelope's arguments.
@@ -94,55 +100,44 @@ pub fn search_setting(setting: &Setting) -> String {
 }
 
 /// What an envelope answers.
-pub fn of_envelope(block: &Block, ceiling: &Drawn) -> String {
+pub fn of_envelope(ceiling: &Drawn) -> Numbers {
     let drop = grouped(ceiling.drop);
-    let numbers = [
-        labelled("drop", &format!("{drop} nV: no pattern drops more")),
-        labelled("quiet tick", &quiet_ceiling(ceiling.sheet.quiet)),
-    ];
-    numbers.concat() + "\n" + &currents(block, &[("at most", &ceiling.sheet)])
+    vec![
+        ("drop", format!("{drop} nV: no pattern drops more")),
+        ("quiet tick", quiet_ceiling(ceiling.sheet.quiet)),
+    ]
 }
 
 /// What a simulation answers.
-pub fn of_simulation(block: &Block, pattern: &Pattern, simulated: &Drawn) -> String {
+pub fn of_simulation(pattern: &Pattern, simulated: &Drawn) -> Numbers {
     let quiet = simulated.sheet.quiet;
-    let numbers = [
-        labelled("pattern", &pattern.line()),
-        labelled("drop", &format!("{} nV", grouped(simulated.drop))),
-        labelled(
+    vec![
+        ("pattern", pattern.line()),
+        ("drop", format!("{} nV", grouped(simulated.drop))),
+        (
             "quiet tick",
-            &format!("{quiet}: it draws no current after it"),
+            format!("{quiet}: the pattern draws no current after it"),
         ),
-    ];
-    numbers.concat() + "\n" + &currents(block, &[("greatest", &simulated.sheet)])
+    ]
 }
 
 /// What a search answers.
-pub fn of_search(block: &Block, setting: &Setting, searched: &Searched) -> String {
+pub fn of_search(setting: &Setting, searched: &Searched) -> Numbers {
     let found = &searched.found;
     let (upper, lower) = (grouped(found.upper), grouped(found.lower));
-    let numbers = [
-        labelled("outcome", &outcome(found, setting)),
-        labelled("U", &format!("{upper} nV: no pattern drops more")),
-        labelled(
+    vec![
+        ("outcome", outcome(found, setting)),
+        ("U", format!("{upper} nV: no pattern drops more")),
+        (
             "L",
-            &format!("{lower} nV: the worst pattern found drops this"),
+            format!("{lower} nV: the worst pattern found drops this"),
         ),
-        labelled("apart", &apart(found)),
-        labelled("splits", &grouped(found.splits)),
-        labelled("cases", &grouped(found.cases)),
-        labelled("quiet tick", &quiet_ceiling(found.quiet)),
-        labelled("pattern", &searched.pattern.line()),
-    ];
-    let sheets = [
-        ("at most", &searched.ceiling),
-        ("pattern", &searched.simulated.sheet),
-    ];
-    numbers.concat() + "\n" + &currents(block, &sheets)
-}
-
-fn labelled(name: &str, value: &str) -> String {
-    format!("{name:<10}   {value}\n")
+        ("apart", apart(found)),
+        ("splits", grouped(found.splits)),
+        ("cases", grouped(found.cases)),
+        ("quiet tick", quiet_ceiling(found.quiet)),
+        ("pattern", searched.pattern.line()),
+    ]
 }
 
 fn quiet_ceiling(quiet: u64) -> String {
@@ -156,7 +151,7 @@ pub fn bounds(found: &Found) -> String {
 }
 
 /// How a search ended.
-pub fn outcome(found: &Found, setting: &Setting) -> String {
+fn outcome(found: &Found, setting: &Setting) -> String {
     match found.outcome {
         Outcome::Exact => "exact: U is L".to_string(),
         Outcome::Within => format!(
@@ -170,19 +165,16 @@ pub fn outcome(found: &Found, setting: &Setting) -> String {
     }
 }
 
-/// How far apart the bounds are. The quotient is rounded up, so that it is the least ratio that the search would have
-/// taken for near enough.
-pub fn apart(found: &Found) -> String {
+/// How far apart the bounds are. The quotient is rounded up: it is the least ratio with which the search would have
+/// ended here.
+fn apart(found: &Found) -> String {
     let Found { upper, lower, .. } = *found;
     let difference = grouped(upper - lower);
-    if upper == lower {
-        "0 nV".to_string()
-    } else if lower == 0 {
-        format!("{difference} nV")
-    } else {
-        let quotient = thousandths((1_000 * upper).div_ceil(lower));
-        format!("{difference} nV: U is {quotient} times L")
+    if upper == lower || lower == 0 {
+        return format!("{difference} nV");
     }
+    let quotient = thousandths((1_000 * upper).div_ceil(lower));
+    format!("{difference} nV: U is {quotient} times L")
 }
 
 /// Thousandths as a decimal number: `2.988`.
@@ -191,26 +183,22 @@ fn thousandths(number: u64) -> String {
 }
 
 /// The greatest current of each contact in each of the sheets, with the first tick at which it flows.
-fn currents(block: &Block, sheets: &[(&str, &Sheet)]) -> String {
-    let mut headings = vec!["contact"];
-    for (name, _) in sheets {
-        headings.extend([*name, "at tick"]);
+pub fn greatest_currents(block: &Block, sheets: &[(&str, &Sheet)]) -> Columns {
+    let headings = sheets.iter().flat_map(|(name, _)| [*name, "at tick"]);
+    let rows = block.contacts().into_iter().map(|contact| {
+        let peaks = sheets.iter().map(|(_, sheet)| sheet.greatest(contact));
+        let words = peaks.flat_map(|peak| [microamperes(peak.current), peak.tick.to_string()]);
+        iter::once(contact.to_string()).chain(words).collect()
+    });
+    Columns {
+        headings: iter::once("contact")
+            .chain(headings)
+            .map(str::to_string)
+            .collect(),
+        rows: rows.collect(),
     }
-    let rows: Vec<Vec<String>> = block
-        .contacts()
-        .into_iter()
-        .map(|contact| {
-            let peaks = sheets.iter().map(|(_, sheet)| sheet.greatest(contact));
-            let words = peaks.flat_map(|peak| [microamperes(peak.current), peak.tick.to_string()]);
-            std::iter::once(contact.to_string()).chain(words).collect()
-        })
-        .collect();
-    if rows.is_empty() {
-        return "no gates, and so no current\n".to_string();
-    }
-    columns::aligned(&headings, &rows)
 }
 
-fn microamperes(current: zimgurav::Word) -> String {
+fn microamperes(current: Word) -> String {
     format!("{} µA", grouped(current))
 }
