@@ -146,7 +146,10 @@ fn unread(name: &str, file: &[u8], refusal: Refusal) -> Failure {
             let rest = counted((length % RECORD_BYTES) as u64, "byte");
             format!("the file has {records} and {rest} more")
         }
-        (refused::RECORDS, _) => format!("the file has {} records", length / RECORD_BYTES),
+        (refused::RECORDS, _) => {
+            let records = counted((length / RECORD_BYTES) as u64, "record");
+            format!("the file has {records}")
+        }
         (_, Some(record)) => {
             let (words, bytes) = (record.words(), record.bytes());
             format!("net {net}: {words}\nits bytes: {bytes}")

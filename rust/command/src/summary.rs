@@ -187,7 +187,10 @@ pub fn greatest_currents(block: &Block, sheets: &[(&str, &Sheet)]) -> Columns {
     let headings = sheets.iter().flat_map(|(name, _)| [*name, "at tick"]);
     let rows = block.contacts().into_iter().map(|contact| {
         let peaks = sheets.iter().map(|(_, sheet)| sheet.greatest(contact));
-        let words = peaks.flat_map(|peak| [microamperes(peak.current), peak.tick.to_string()]);
+        let words = peaks.flat_map(|peak| match peak.current {
+            0 => [microamperes(0), "-".to_string()],
+            current => [microamperes(current), peak.tick.to_string()],
+        });
         iter::once(contact.to_string()).chain(words).collect()
     });
     Columns {

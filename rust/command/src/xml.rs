@@ -1,1 +1,3 @@
-
+pub fn escaped(text: &str) -> String {
+    text.to_string()
+}
