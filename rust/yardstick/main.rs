@@ -11,6 +11,7 @@ use std::path::Path;
 use baseline::{fast, sums};
 use check::implementation::{Implementation, LIBRARY, SECOND};
 use check::measure::{bench_block, compare, compare_searches, full_blocks};
+use check::sample::Arguments;
 use zimgurav::{Counts, Currents, Found, Outcome, Refusal, Word};
 
 /// The yardstick. Its `sums` rounds to the nearest and adds pulses up; Read is that of its `fast`, as `sums` has none.
@@ -122,6 +123,6 @@ fn main() {
     for (name, arguments) in full_blocks() {
         compare(name, &arguments, &all);
     }
-    let (call, pair) = (Implementation::search, [LIBRARY, YARDSTICK]);
+    let (call, pair) = (Arguments::search, [LIBRARY, YARDSTICK]);
     compare_searches("bench.blk", call, &bench_block, &BUDGETS, &pair);
 }

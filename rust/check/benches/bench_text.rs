@@ -1,6 +1,6 @@
 //! The time of Bench on a text of a full block: the library beside the second implementation.
 
-use check::implementation::{Implementation, LIBRARY, SECOND};
+use check::implementation::{LIBRARY, SECOND};
 use check::measure::compare_operation;
 use check::sample::{gate, input, lines, plain_text, Arguments, Random, Record};
 use zimgurav::kind::{AND, XNOR};
@@ -33,5 +33,5 @@ fn main() {
     let name = format!("bench, 1,024 records in {} bytes", text.len());
     let arguments = Arguments::of_text(&text);
     let implementations = [LIBRARY, SECOND];
-    compare_operation(&name, Implementation::bench, &arguments, &implementations);
+    compare_operation(&name, Arguments::bench, &arguments, &implementations);
 }

@@ -2,7 +2,6 @@
 //! and budget: along each axis the library's time as a ratio of its time with the smallest size, and of
 //! the second implementation's time.
 
-use check::implementation::Implementation;
 use check::measure::{compare_sizes, full_blocks, Axis, Turns};
 use check::sample::{Arguments, Record};
 use zimgurav::kind::INPUT;
@@ -93,9 +92,9 @@ fn axis(
 
 /// Envelope, Simulate and Search along an axis that all of them have.
 fn compare_all(axis: &Axis) {
-    compare_sizes("envelope", Implementation::envelope, axis, CALLS);
-    compare_sizes("simulate", Implementation::simulate, axis, CALLS);
-    compare_sizes("search", Implementation::search, axis, SEARCHES);
+    compare_sizes("envelope", Arguments::envelope, axis, CALLS);
+    compare_sizes("simulate", Arguments::simulate, axis, CALLS);
+    compare_sizes("search", Arguments::search, axis, SEARCHES);
 }
 
 fn main() {
@@ -106,10 +105,10 @@ fn main() {
     compare_all(&axis("nodes", &wide, with_nodes, &[1, 2, 4, 8, 16]));
 
     let hops = axis("hop limit", &deep, with_hop_limit, &[1, 2, 4, 8, 16]);
-    compare_sizes("envelope", Implementation::envelope, &hops, CALLS);
-    compare_sizes("search", Implementation::search, &hops, SEARCHES);
+    compare_sizes("envelope", Arguments::envelope, &hops, CALLS);
+    compare_sizes("search", Arguments::search, &hops, SEARCHES);
 
     let part = with_nets(&wide, 256);
     let budgets = axis("budget", &part, with_budget, &[0, 1, 4, 16, 64, 256]);
-    compare_sizes("search", Implementation::search, &budgets, SEARCHES);
+    compare_sizes("search", Arguments::search, &budgets, SEARCHES);
 }

@@ -3,11 +3,12 @@
 //!
 //! `rust/yardstick/run` measures it beside a third implementation too, where one is at hand.
 
-use check::implementation::{Implementation, LIBRARY, SECOND};
+use check::implementation::{LIBRARY, SECOND};
 use check::measure::{compare_searches, full_blocks};
+use check::sample::Arguments;
 
 fn main() {
-    let call = Implementation::search;
+    let call = Arguments::search;
     for (name, arguments) in full_blocks() {
         compare_searches(name, call, &arguments, &[10], &[LIBRARY, SECOND]);
         compare_searches(name, call, &arguments, &[50, 200, 800, 10_000], &[LIBRARY]);

@@ -17,11 +17,11 @@ fn main() {
     };
     let mut arguments = bench_block(Path::new(folder));
     let accepted = match operation {
-        ["envelope"] => LIBRARY.envelope(&mut arguments).is_ok(),
-        ["simulate"] => LIBRARY.simulate(&mut arguments).is_ok(),
+        ["envelope"] => arguments.envelope(&LIBRARY).is_ok(),
+        ["simulate"] => arguments.simulate(&LIBRARY).is_ok(),
         ["search", budget] => {
             arguments = arguments.with_budget(budget.parse().expect("a number"));
-            LIBRARY.search(&mut arguments).is_ok()
+            arguments.search(&LIBRARY).is_ok()
         }
         _ => panic!("an operation"),
     };

@@ -49,7 +49,7 @@ impl Searched {
     /// The pattern handed over is accepted and drops exactly L.
     pub fn hands_over_a_pattern(&self, simulator: &Implementation) -> Result<(), String> {
         let lower = self.found.lower;
-        match simulator.simulate(&mut self.lent.clone()) {
+        match self.lent.clone().simulate(simulator) {
             Ok(currents) => expect(currents.drop == lower, || {
                 format!("the pattern drops {}, L is {lower}", currents.drop)
             }),
@@ -108,9 +108,9 @@ impl Searched {
             }
             let decided = sets.iter().all(|set| set.count_ones() <= 1);
             let currents = if decided {
-                implementation.simulate(&mut lent)
+                lent.simulate(implementation)
             } else {
-                implementation.envelope(&mut lent)
+                lent.envelope(implementation)
             };
             let drop = currents
                 .map_err(|refusal| format!("a case is {refusal}"))?

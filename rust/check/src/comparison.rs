@@ -22,8 +22,8 @@ pub fn compare<Answer: Copy + Debug + PartialEq>(
     before: &Arguments,
 ) -> Result<Compared<Answer>, String> {
     let (mut after, mut other) = (before.clone(), before.clone());
-    let answer = call(first, &mut after);
-    let expected = call(second, &mut other);
+    let answer = call(&mut after, first);
+    let expected = call(&mut other, second);
     let (name, other_name) = (first.name, second.name);
     if answer != expected {
         return Err(format!(
@@ -196,40 +196,40 @@ mod tests {
     #[test]
     fn reports_a_wrong_answer() {
         let arguments = Arguments::new(&block_s());
-        let drop = said(HIGH_DROP, Implementation::envelope, &arguments);
+        let drop = said(HIGH_DROP, Arguments::envelope, &arguments);
         assert!(drop.starts_with("high drop answers Ok(Currents { drop: 21"));
-        let simulated = said(LATE_SIMULATION, Implementation::simulate, &arguments);
+        let simulated = said(LATE_SIMULATION, Arguments::simulate, &arguments);
         assert!(simulated.starts_with("late simulation answers Ok(Currents { drop: 0, quiet: 1 }"));
-        let searched = said(LATE_SEARCH, Implementation::search, &arguments);
+        let searched = said(LATE_SEARCH, Arguments::search, &arguments);
         assert!(searched.contains("cases: 4, quiet: 2 }), second Ok("));
-        let inputs = said(INPUT_LOST, Implementation::read, &arguments);
+        let inputs = said(INPUT_LOST, Arguments::read, &arguments);
         assert!(inputs.starts_with("input lost answers Ok(Counts { nets: 3, inputs: 0"));
-        let count = said(HIGH_COUNT, Implementation::bench, &arguments);
+        let count = said(HIGH_COUNT, Arguments::bench, &arguments);
         assert_eq!(count, "high count answers Ok(2), second Ok(1)");
     }
 
     #[test]
     fn reports_a_buffer_left_or_changed() {
         let mut arguments = Arguments::new(&block_s());
-        let sheet = said(SHEET_UNTOUCHED, Implementation::simulate, &arguments);
+        let sheet = said(SHEET_UNTOUCHED, Arguments::simulate, &arguments);
         assert!(sheet.ends_with("differ: sheet at 0: 17216961135462248174, 0"));
         let last = arguments.store.len() - 1;
-        let store = said(STORE_CLEARED, Implementation::search, &arguments);
+        let store = said(STORE_CLEARED, Arguments::search, &arguments);
         assert!(store.ends_with(&format!("differ: case store at {last}: 0, 238")));
         arguments.ratio = 0;
-        let refused = said(STORE_CLEARED, Implementation::search, &arguments);
+        let refused = said(STORE_CLEARED, Arguments::search, &arguments);
         assert!(refused.starts_with("store cleared refuses and changes case store at"));
-        let records = said(RECORDS_CLEARED, Implementation::bench, &arguments);
+        let records = said(RECORDS_CLEARED, Arguments::bench, &arguments);
         assert!(records.ends_with("differ: record buffer at 20479: 0, 238"));
         arguments.text.clear();
-        let refused = said(RECORDS_CLEARED, Implementation::bench, &arguments);
+        let refused = said(RECORDS_CLEARED, Arguments::bench, &arguments);
         assert!(refused.starts_with("records cleared refuses and changes record buffer at"));
     }
 
     #[test]
     fn says_nothing_of_equal_calls() {
         let arguments = Arguments::new(&block_s());
-        assert_eq!(said(HIGH_DROP, Implementation::search, &arguments), "");
-        assert_eq!(said(SHEET_UNTOUCHED, Implementation::read, &arguments), "");
+        assert_eq!(said(HIGH_DROP, Arguments::search, &arguments), "");
+        assert_eq!(said(SHEET_UNTOUCHED, Arguments::read, &arguments), "");
     }
 }

@@ -78,8 +78,8 @@ fn with_table(random: &mut Random, block: &[Record], table: Vec<u16>) -> Argumen
 /// each of the others'.
 pub fn compare(name: &str, arguments: &Arguments, implementations: &[Implementation]) {
     let operations: [(&str, Operation<Currents>); 2] = [
-        ("envelope", Implementation::envelope),
-        ("simulate", Implementation::simulate),
+        ("envelope", Arguments::envelope),
+        ("simulate", Arguments::simulate),
     ];
     for (operation, call) in operations {
         let name = format!("{operation}, {name}");
@@ -182,9 +182,9 @@ impl<Answer> Calls<Answer> {
     fn turn(&mut self, implementation: &Implementation, call: Operation<Answer>, calls: u32) {
         let start = thread_time();
         for _ in 1..calls {
-            let _ = black_box(call(implementation, black_box(&mut self.lent)));
+            let _ = black_box(call(black_box(&mut self.lent), implementation));
         }
-        let answer = call(implementation, black_box(&mut self.lent));
+        let answer = call(black_box(&mut self.lent), implementation);
         self.times.push((thread_time() - start) / calls);
         self.answers.push(answer);
     }

@@ -3,7 +3,7 @@
 
 use std::fmt::Debug;
 
-use check::implementation::{Implementation, Operation, LIBRARY, SECOND};
+use check::implementation::{Operation, LIBRARY, SECOND};
 use check::sample::{drawing, gate, input, Arguments, Record};
 use zimgurav::kind::{AND, BUF, NOT};
 use zimgurav::{
@@ -12,15 +12,15 @@ use zimgurav::{
     ROW_TICKS, SHEET_WORDS,
 };
 
-const ENVELOPE: Operation<Currents> = Implementation::envelope;
-const SIMULATE: Operation<Currents> = Implementation::simulate;
-const SEARCH: Operation<Found> = Implementation::search;
+const ENVELOPE: Operation<Currents> = Arguments::envelope;
+const SIMULATE: Operation<Currents> = Arguments::simulate;
+const SEARCH: Operation<Found> = Arguments::search;
 
 #[track_caller]
 fn accepted<Answer: Debug>(call: Operation<Answer>, arguments: &Arguments) {
     for implementation in [LIBRARY, SECOND] {
         let mut lent = arguments.clone();
-        let answer = call(&implementation, &mut lent);
+        let answer = call(&mut lent, &implementation);
         assert!(answer.is_ok(), "{}: {answer:?}", implementation.name);
     }
 }
@@ -35,7 +35,7 @@ fn refused<Answer: Debug + PartialEq>(
     for implementation in [LIBRARY, SECOND] {
         let name = implementation.name;
         let mut lent = arguments.clone();
-        let answer = call(&implementation, &mut lent);
+        let answer = call(&mut lent, &implementation);
         assert_eq!(answer, Err(Refusal { number, place }), "{name}");
         assert!(lent.file == arguments.file, "{name} changed the file");
         assert!(lent.table == arguments.table, "{name} changed the table");

@@ -188,9 +188,9 @@ mod refusals {
             let mut lent = Arguments::new(&block_f());
             make(&mut lent);
             let answer = match number {
-                refused::PATTERN => LIBRARY.simulate(&mut lent).map(drop),
-                refused::LINE | refused::NAME => LIBRARY.bench(&mut lent).map(drop),
-                _ => LIBRARY.search(&mut lent).map(drop),
+                refused::PATTERN => lent.simulate(&LIBRARY).map(drop),
+                refused::LINE | refused::NAME => lent.bench(&LIBRARY).map(drop),
+                _ => lent.search(&LIBRARY).map(drop),
             };
             assert_eq!(answer.map_err(|refusal| refusal.number), Err(number));
         }
@@ -287,10 +287,10 @@ fn calls_at_once() {
     let all = |lent: &Arguments| {
         let mut lent = lent.clone();
         let answers = (
-            LIBRARY.envelope(&mut lent),
-            LIBRARY.simulate(&mut lent),
-            LIBRARY.search(&mut lent),
-            LIBRARY.bench(&mut lent),
+            lent.envelope(&LIBRARY),
+            lent.simulate(&LIBRARY),
+            lent.search(&LIBRARY),
+            lent.bench(&LIBRARY),
         );
         (answers, lent.sheet, lent.pattern, lent.store, lent.records)
     };

@@ -4,7 +4,7 @@
 
 use std::ops::RangeInclusive;
 
-use check::implementation::{Implementation, Operation, LIBRARY, SECOND};
+use check::implementation::{Operation, LIBRARY, SECOND};
 use check::sample::{
     self, drawing, gate, input, patterns, silent, switching_at, Arguments, Random, Record, Shape,
 };
@@ -31,7 +31,7 @@ fn gives(
     for implementation in [LIBRARY, SECOND] {
         let name = implementation.name;
         let mut lent = arguments.clone();
-        let answer = call(&implementation, &mut lent);
+        let answer = call(&mut lent, &implementation);
         assert_eq!(answer, Ok(Currents { drop, quiet }), "{name}");
         let different = (0..SHEET_WORDS).find(|&word| lent.sheet[word] != sheet[word]);
         if let Some(word) = different {
@@ -44,12 +44,12 @@ fn gives(
 
 #[track_caller]
 fn envelope_gives(arguments: &Arguments, drop: u64, quiet: u64, rows: &[(usize, &[Word])]) {
-    gives(arguments, Implementation::envelope, drop, quiet, rows);
+    gives(arguments, Arguments::envelope, drop, quiet, rows);
 }
 
 #[track_caller]
 fn simulate_gives(arguments: &Arguments, drop: u64, quiet: u64, rows: &[(usize, &[Word])]) {
-    gives(arguments, Implementation::simulate, drop, quiet, rows);
+    gives(arguments, Arguments::simulate, drop, quiet, rows);
 }
 
 /// Accepted arguments with this pattern at the first inputs.
@@ -332,14 +332,14 @@ mod pulses {
 
         block[6][2] = 2;
         let arguments = with_pattern(&block, &[LH]);
-        for call in [Implementation::envelope, Implementation::simulate] {
+        for call in [Arguments::envelope, Arguments::simulate] {
             for implementation in [LIBRARY, SECOND] {
                 let refusal = Refusal {
                     number: 10,
                     place: 6,
                 };
                 let mut lent = arguments.clone();
-                assert_eq!(call(&implementation, &mut lent), Err(refusal));
+                assert_eq!(call(&mut lent, &implementation), Err(refusal));
                 assert!(lent == arguments);
             }
         }
@@ -621,7 +621,7 @@ mod sums {
             let mut arguments = Arguments::new(&block);
             arguments.hop_limit = 1;
             arguments.table = vec![65_535; 256];
-            gives_at_the_greatest(&arguments, Implementation::envelope, &sheet);
+            gives_at_the_greatest(&arguments, Arguments::envelope, &sheet);
         }
     }
 
@@ -643,8 +643,8 @@ mod sums {
             assert_eq!(contacts == 1, *highest > 1 << 32);
             let mut arguments = with_pattern(&block, &[LH]);
             arguments.table = vec![65_535; 256];
-            gives_at_the_greatest(&arguments, Implementation::simulate, &sheet);
-            gives_at_the_greatest(&arguments, Implementation::envelope, &sheet);
+            gives_at_the_greatest(&arguments, Arguments::simulate, &sheet);
+            gives_at_the_greatest(&arguments, Arguments::envelope, &sheet);
         }
     }
 }
@@ -1007,8 +1007,7 @@ mod buffers {
         })
     }
 
-    const OPERATIONS: [Operation<Currents>; 2] =
-        [Implementation::envelope, Implementation::simulate];
+    const OPERATIONS: [Operation<Currents>; 2] = [Arguments::envelope, Arguments::simulate];
 
     /// What is only read stays as it was.
     #[test]
@@ -1016,7 +1015,7 @@ mod buffers {
         for arguments in samples(2, 200) {
             for call in OPERATIONS {
                 let mut lent = arguments.clone();
-                call(&LIBRARY, &mut lent).expect("accepted");
+                call(&mut lent, &LIBRARY).expect("accepted");
                 assert!(lent.file == arguments.file);
                 assert!(lent.table == arguments.table);
                 assert!(lent.pattern == arguments.pattern);
@@ -1034,17 +1033,17 @@ mod buffers {
                 let mut clean = arguments.clone();
                 clean.sheet.fill(0);
                 clean.work = vec![0; least];
-                let answer = call(&LIBRARY, &mut clean);
+                let answer = call(&mut clean, &LIBRARY);
                 assert!(answer.is_ok());
                 for more in [0, 1, 160, 1 << 16] {
                     let mut dirty = arguments.clone();
                     dirty.sheet.fill_with(|| random.bits());
                     dirty.work.resize(least + more, 0);
                     dirty.work.fill_with(|| random.byte(0, 255));
-                    assert_eq!(call(&LIBRARY, &mut dirty), answer);
+                    assert_eq!(call(&mut dirty, &LIBRARY), answer);
                     assert!(dirty.sheet == clean.sheet);
                     // Once more, with what the call left in its buffers.
-                    assert_eq!(call(&LIBRARY, &mut dirty), answer);
+                    assert_eq!(call(&mut dirty, &LIBRARY), answer);
                     assert!(dirty.sheet == clean.sheet);
                 }
             }
@@ -1080,11 +1079,11 @@ mod soundness {
             };
             let block = shape.block(&mut random);
             let mut ceiling = Arguments::random(&mut random, &block);
-            let envelope = LIBRARY.envelope(&mut ceiling).expect("accepted");
+            let envelope = ceiling.envelope(&LIBRARY).expect("accepted");
             let mut under = ceiling.clone();
             for pattern in patterns(&block) {
                 under.pattern[..inputs].copy_from_slice(&pattern);
-                let currents = SECOND.simulate(&mut under).expect("accepted");
+                let currents = under.simulate(&SECOND).expect("accepted");
                 assert!(currents.drop <= envelope.drop);
                 assert!(currents.quiet <= envelope.quiet);
                 let mut words = under.sheet.iter().zip(&ceiling.sheet);
@@ -1110,8 +1109,8 @@ mod soundness {
             let shape = Shape::random(&mut random, 100);
             let block = shape.block(&mut random);
             let mut arguments = Arguments::random(&mut random, &block);
-            for call in [Implementation::envelope, Implementation::simulate] {
-                let currents = call(&LIBRARY, &mut arguments).expect("accepted");
+            for call in [Arguments::envelope, Arguments::simulate] {
+                let currents = call(&mut arguments, &LIBRARY).expect("accepted");
                 let quiet = currents.quiet as usize;
                 let rows = || arguments.sheet.chunks_exact(ROW_TICKS);
                 for row in rows() {

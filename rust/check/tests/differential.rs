@@ -4,7 +4,7 @@
 use std::fmt::Debug;
 
 use check::comparison::{self, Compared};
-use check::implementation::{Implementation, Operation, LIBRARY, SECOND};
+use check::implementation::{Operation, LIBRARY, SECOND};
 use check::measure::full_blocks;
 use check::sample::{
     block_of_sums, damage, has_half, lend_random_text, lower_peaks, noise, spoil, Arguments,
@@ -155,7 +155,7 @@ fn random_envelopes() {
     let (mut hops_mattered, mut overlaps) = (0, 0);
     for turn in 0..CALLS {
         let arguments = random_arguments(&mut random);
-        let answer = compare(Implementation::envelope, &arguments, turn);
+        let answer = compare(Arguments::envelope, &arguments, turn);
         count(&mut reached, answer);
         if answer.is_ok() {
             let overlap = second::envelope_overlaps(&arguments.file, arguments.hop_limit);
@@ -165,8 +165,8 @@ fn random_envelopes() {
             let mut few = arguments.clone();
             let mut many = arguments.clone();
             many.hop_limit = 16;
-            SECOND.envelope(&mut few).expect("accepted");
-            SECOND.envelope(&mut many).expect("accepted");
+            few.envelope(&SECOND).expect("accepted");
+            many.envelope(&SECOND).expect("accepted");
             hops_mattered += usize::from(few.sheet != many.sheet);
         }
     }
@@ -204,7 +204,7 @@ fn random_simulations() {
     let (mut rounding_mattered, mut with_halves, mut overlaps) = (0, 0, 0);
     for turn in 0..CALLS {
         let arguments = random_arguments(&mut random);
-        let answer = compare(Implementation::simulate, &arguments, turn);
+        let answer = compare(Arguments::simulate, &arguments, turn);
         count(&mut reached, answer);
         let mut records = arguments.file.as_chunks().0.iter();
         with_halves += usize::from(answer.is_ok() && records.any(has_half));
@@ -214,7 +214,7 @@ fn random_simulations() {
         }
         if let (Ok(currents), 0) = (answer, turn % 8) {
             let mut greatest = with_the_greatest_peaks(&arguments);
-            let later = SECOND.simulate(&mut greatest).expect("accepted").quiet;
+            let later = greatest.simulate(&SECOND).expect("accepted").quiet;
             rounding_mattered += usize::from(currents.quiet < later);
         }
     }
@@ -242,7 +242,7 @@ fn random_simulations() {
 #[test]
 fn random_sums() {
     let mut random = Random::new(6);
-    let operations: [Operation<Currents>; 2] = [Implementation::envelope, Implementation::simulate];
+    let operations: [Operation<Currents>; 2] = [Arguments::envelope, Arguments::simulate];
     let mut wide = [0; 3];
     let mut count_wide = |operation: usize, arguments: &Arguments| {
         let above = arguments
@@ -257,7 +257,7 @@ fn random_sums() {
         for (place, call) in operations.into_iter().enumerate() {
             count_wide(place, &agreed(call, &arguments, turn).after);
         }
-        count_wide(2, &agreed(Implementation::search, &arguments, turn).after);
+        count_wide(2, &agreed(Arguments::search, &arguments, turn).after);
     }
     println!("words above 32 bits in envelopes, simulations, searches: {wide:?}");
     assert!(wide.iter().all(|&times| times >= SUMS / 4), "{wide:?}");
@@ -294,12 +294,12 @@ fn random_searches() {
     let mut ended_earlier = 0;
     for turn in 0..SEARCHES {
         let arguments = random_search(&mut random);
-        let answer = compare(Implementation::search, &arguments, turn);
+        let answer = compare(Arguments::search, &arguments, turn);
         count(&mut reached, answer);
         if let Ok(found) = answer {
             outcomes[found.outcome as usize] += 1;
             after_splits[found.outcome as usize] += usize::from(found.splits > 0);
-            let of_the_frame = SECOND.envelope(&mut arguments.clone());
+            let of_the_frame = arguments.clone().envelope(&SECOND);
             let quiet = of_the_frame.expect("accepted").quiet;
             ended_earlier += usize::from(0 < found.quiet && found.quiet < quiet);
         }
@@ -337,7 +337,7 @@ fn random_texts() {
     for turn in 0..TEXTS {
         let records = records_of_a_text(&mut random);
         lend_random_text(&mut random, records, &mut arguments);
-        let answer = compare(Implementation::bench, &arguments, turn);
+        let answer = compare(Arguments::bench, &arguments, turn);
         count(&mut reached, answer);
     }
     println!("accepted, then refusals 1 to 18: {reached:?}");
@@ -352,7 +352,7 @@ fn random_texts() {
 fn search_the_largest_block(budget: u64) {
     let [(_, arguments), _] = full_blocks();
     let arguments = arguments.with_budget(budget);
-    let found = compare(Implementation::search, &arguments, 0).expect("accepted");
+    let found = compare(Arguments::search, &arguments, 0).expect("accepted");
     assert_eq!(found.outcome, Outcome::Spent);
     assert_eq!(found.splits, budget);
 }

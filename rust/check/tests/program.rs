@@ -94,7 +94,7 @@ fn expected(file: &[u8]) -> String {
         work: vec![0; 160 * 256],
         ..Arguments::new(&[])
     };
-    match SECOND.search(&mut arguments) {
+    match arguments.search(&SECOND) {
         Err(refusal) => format!("refused {} {}\n", refusal.number, refusal.place),
         Ok(found) => {
             let counts = second::read(file).expect("accepted");

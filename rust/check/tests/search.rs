@@ -62,7 +62,7 @@ fn finds(arguments: &Arguments, expected: &Expected) {
     for implementation in [LIBRARY, SECOND] {
         let name = implementation.name;
         let mut lent = arguments.clone();
-        assert_eq!(implementation.search(&mut lent), Ok(found), "{name}");
+        assert_eq!(lent.search(&implementation), Ok(found), "{name}");
         assert!(lent.file == after.file, "{name} changed the file");
         assert!(lent.table == after.table, "{name} changed the table");
         assert_eq!(lent.pattern, after.pattern, "{name}'s pattern");
@@ -77,7 +77,7 @@ fn finds(arguments: &Arguments, expected: &Expected) {
 
 /// An implementation's search with these arguments, which it accepts.
 fn searched(implementation: &Implementation, mut arguments: Arguments) -> Searched {
-    let found = implementation.search(&mut arguments).expect("accepted");
+    let found = arguments.search(implementation).expect("accepted");
     Searched {
         lent: arguments,
         found,
@@ -1058,7 +1058,7 @@ mod buffers {
                 work: vec![0; 160 * block.len()],
                 ..arguments.clone().with_budget(arguments.budget)
             };
-            let found = LIBRARY.search(&mut clean).expect("accepted");
+            let found = clean.search(&LIBRARY).expect("accepted");
             let cases = 72 * found.cases as usize;
             for more in [0, 1, 72, 1 << 16] {
                 let mut dirty = arguments.clone();
@@ -1071,7 +1071,7 @@ mod buffers {
                 let before = dirty.clone();
                 // Twice, the second time with what the first call left.
                 for _ in 0..2 {
-                    assert_eq!(LIBRARY.search(&mut dirty), Ok(found));
+                    assert_eq!(dirty.search(&LIBRARY), Ok(found));
                     assert!(dirty.file == before.file);
                     assert!(dirty.table == before.table);
                     assert!(dirty.sheet == clean.sheet);
@@ -1122,7 +1122,7 @@ mod agreement {
             let mut under = searches[0].lent.clone();
             for pattern in patterns(&block) {
                 under.pattern[..pattern.len()].copy_from_slice(&pattern);
-                let currents = SECOND.simulate(&mut under).expect("accepted");
+                let currents = under.simulate(&SECOND).expect("accepted");
                 let Currents { drop, quiet } = currents;
                 for searched in &searches {
                     let Found {

@@ -78,7 +78,7 @@ impl<'a> Vector<'a> {
             work: unused_bytes(work_length),
             ..Arguments::new(&[])
         };
-        self.run_currents(implementation, Implementation::envelope, &arguments, at);
+        self.run_currents(implementation, Arguments::envelope, &arguments, at);
     }
 
     /// Calls Simulate.
@@ -94,7 +94,7 @@ impl<'a> Vector<'a> {
             work: unused_bytes(work_length),
             ..Arguments::new(&[])
         };
-        self.run_currents(implementation, Implementation::simulate, &arguments, at);
+        self.run_currents(implementation, Arguments::simulate, &arguments, at);
     }
 
     /// Calls Search.
@@ -117,7 +117,7 @@ impl<'a> Vector<'a> {
             ..Arguments::new(&[])
         };
         let mut lent = arguments.clone();
-        match implementation.search(&mut lent) {
+        match lent.search(implementation) {
             Ok(found) => self.check_search(found, &lent, &format!("{}, {at}", implementation.name)),
             Err(refusal) => self.check_refusal(implementation, refusal, &arguments, &lent, at),
         }
@@ -153,7 +153,7 @@ impl<'a> Vector<'a> {
     ) {
         let name = implementation.name;
         let mut lent = arguments.clone();
-        match call(implementation, &mut lent) {
+        match call(&mut lent, implementation) {
             Ok(currents) => {
                 let ["ok", drop, quiet, hash] = self.answer[..] else {
                     panic!("{name} accepts, {at}");
@@ -182,7 +182,7 @@ impl<'a> Vector<'a> {
         };
         let name = implementation.name;
         let mut lent = arguments.clone();
-        match implementation.bench(&mut lent) {
+        match lent.bench(implementation) {
             Ok(number) => {
                 let ["ok", count, records] = self.answer[..] else {
                     panic!("{name} accepts, {at}");

@@ -92,14 +92,14 @@ fn compare_calls(
     random: &mut Random,
     coverage: &mut Coverage,
 ) -> Result<(), String> {
-    let read = compare(pair, Implementation::read, arguments).map_err(of_operation(0))?;
+    let read = compare(pair, Arguments::read, arguments).map_err(of_operation(0))?;
     coverage.count_block(arguments, read.answer);
     coverage.count_answer(0, &read.answer);
 
     compare_envelopes(pair, arguments, read.answer, coverage).map_err(of_operation(1))?;
     compare_simulations(pair, arguments, coverage).map_err(of_operation(2))?;
 
-    let search = compare(pair, Implementation::search, arguments).map_err(of_operation(3))?;
+    let search = compare(pair, Arguments::search, arguments).map_err(of_operation(3))?;
     coverage.count_answer(3, &search.answer);
     if let Ok(found) = search.answer {
         let lent = search.after;
@@ -109,7 +109,7 @@ fn compare_calls(
             .map_err(|seen| format!("Search against Simulate: {seen}"))?;
     }
 
-    let bench = compare(pair, Implementation::bench, arguments).map_err(of_operation(4))?;
+    let bench = compare(pair, Arguments::bench, arguments).map_err(of_operation(4))?;
     coverage.count_answer(4, &bench.answer);
     if let Ok(records) = bench.answer {
         coverage.count_text(records);
@@ -126,7 +126,7 @@ fn compare_envelopes(
     read: Result<Counts, Refusal>,
     coverage: &mut Coverage,
 ) -> Result<(), String> {
-    let envelope = compare(pair, Implementation::envelope, arguments)?;
+    let envelope = compare(pair, Arguments::envelope, arguments)?;
     coverage.count_answer(1, &envelope.answer);
     if let (Ok(counts), Ok(_)) = (read, envelope.answer) {
         let (file, hop_limit) = (&arguments.file, arguments.hop_limit);
@@ -144,7 +144,7 @@ fn compare_simulations(
     arguments: &Arguments,
     coverage: &mut Coverage,
 ) -> Result<(), String> {
-    let simulate = compare(pair, Implementation::simulate, arguments)?;
+    let simulate = compare(pair, Arguments::simulate, arguments)?;
     coverage.count_answer(2, &simulate.answer);
     if simulate.answer.is_ok() {
         let overlap = second::simulation_overlaps(&arguments.file, &arguments.pattern);
@@ -162,7 +162,7 @@ fn read_again(
 ) -> Result<(), String> {
     let file = after.records.get(..RECORD_BYTES * records as usize);
     after.file = file.ok_or("more records than the buffer has")?.to_vec();
-    match implementation.read(&mut after) {
+    match after.read(implementation) {
         Ok(counts) if counts.nets == records => Ok(()),
         Ok(counts) => Err(format!("{records} records, {} nets", counts.nets)),
         Err(refusal) => Err(format!("the records are {refusal}")),
@@ -189,7 +189,7 @@ fn hold_against_simulations(
         for (byte, input) in lent.pattern.iter_mut().zip(inputs()) {
             *byte = random.pick(&allowed(input));
         }
-        let currents = implementation.simulate(&mut lent);
+        let currents = lent.simulate(implementation);
         let currents = currents.map_err(|refusal| format!("{refusal}"))?;
         searched.is_above(&lent.pattern[..inputs().count()], currents, &lent.sheet)?;
         coverage.patterns += 1;

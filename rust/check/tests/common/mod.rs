@@ -1,7 +1,7 @@
 //! What the tests of Bench share: a call of both implementations, and what it has to give.
 
 use check::comparison::{compare, Compared};
-use check::implementation::{Implementation, LIBRARY, SECOND};
+use check::implementation::{LIBRARY, SECOND};
 use check::sample::{input, Arguments, Record};
 use zimgurav::kind::INPUT;
 use zimgurav::{read, Counts, Refusal, RECORD_BYTES};
@@ -10,7 +10,7 @@ use zimgurav::{read, Counts, Refusal, RECORD_BYTES};
 /// refusal changes none.
 #[track_caller]
 pub fn called(arguments: &Arguments) -> Compared<u64> {
-    match compare(&[LIBRARY, SECOND], Implementation::bench, arguments) {
+    match compare(&[LIBRARY, SECOND], Arguments::bench, arguments) {
         Ok(compared) => compared,
         Err(difference) => panic!("{difference}, text {}", shown(arguments)),
     }
