@@ -286,7 +286,7 @@ fn hash(bytes: impl IntoIterator<Item = u8>) -> String {
 /// The folder of the calls, or of the answers.
 fn folder(part: &str) -> PathBuf {
     Path::new(env!("CARGO_MANIFEST_DIR"))
-        .join("tests/vectors")
+        .join("../calls/stored")
         .join(part)
 }
 
