@@ -1,5 +1,67 @@
-//! Calls of the operations: the implementations that they are made in.
+//! Stored calls of the operations, and how a call is made and its answer put into words.
+//!
+//! `stored/README.md` says what a line of a call and a line of an answer are.
 
+mod answer;
+mod hash;
 mod implementation;
 
+pub use answer::answer;
 pub use implementation::{Bench, Envelope, Implementation, Read, Search, Simulate, LIBRARY};
+
+/// A file of stored calls.
+#[derive(Clone, Copy)]
+pub struct Stored {
+    pub name: &'static str,
+    /// A call a line.
+    pub text: &'static str,
+}
+
+/// The files of stored calls, in the order of their names. A program holds one copy of a static, but
+/// may hold several of a constant, and these are 4 megabytes.
+pub static STORED: [Stored; 6] = [
+    Stored {
+        name: "arguments",
+        text: include_str!("../stored/calls/arguments.txt"),
+    },
+    Stored {
+        name: "bench",
+        text: include_str!("../stored/calls/bench.txt"),
+    },
+    Stored {
+        name: "capped",
+        text: include_str!("../stored/calls/capped.txt"),
+    },
+    Stored {
+        name: "damaged",
+        text: include_str!("../stored/calls/damaged.txt"),
+    },
+    Stored {
+        name: "gappy",
+        text: include_str!("../stored/calls/gappy.txt"),
+    },
+    Stored {
+        name: "small",
+        text: include_str!("../stored/calls/small.txt"),
+    },
+];
+
+/// The digest of the right answers to the stored calls.
+pub const DIGEST: &str = "abac75f1bdb3f8de";
+
+/// The stored calls, in the order of their files.
+pub fn lines() -> impl Iterator<Item = &'static str> {
+    STORED.iter().flat_map(|file| file.text.lines())
+}
+
+/// How many calls are stored.
+pub fn count() -> usize {
+    lines().count()
+}
+
+/// The digest of answers: the 64-bit FNV-1a hash, 16 hexadecimal digits, of their lines, each with a
+/// newline after it.
+pub fn digest(answers: impl IntoIterator<Item = impl AsRef<str>>) -> String {
+    let lines = answers.into_iter();
+    hash::hash(lines.flat_map(|line| [line.as_ref().as_bytes(), b"\n"].concat()))
+}
