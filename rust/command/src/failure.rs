@@ -20,6 +20,8 @@ pub enum Kind {
     Usage,
     /// A file could not be read or written, or says nothing that the command understands.
     File,
+    /// The library does not answer what it should.
+    Wrong,
 }
 
 impl Failure {
@@ -52,10 +54,17 @@ impl Failure {
         }
     }
 
+    pub fn wrong(message: impl Display) -> Self {
+        Failure {
+            message: message.to_string(),
+            kind: Kind::Wrong,
+        }
+    }
+
     /// The status that the command exits with.
     pub fn status(&self) -> u8 {
         match self.kind {
-            Kind::Refused => 1,
+            Kind::Refused | Kind::Wrong => 1,
             Kind::Usage | Kind::File => 2,
         }
     }

@@ -8,6 +8,7 @@ use crate::block::Block;
 use crate::excitation;
 use crate::failure::Failure;
 use crate::files;
+use crate::number::counted;
 
 /// The bytes of the inputs.
 pub struct Pattern(Vec<u8>);
@@ -48,9 +49,10 @@ impl Pattern {
         if bytes.len() == inputs {
             return Ok(Pattern(bytes));
         }
-        let words = bytes.len();
+        let words = counted(bytes.len() as u64, "word");
+        let inputs = counted(inputs as u64, "input");
         Err(Failure::usage(format_args!(
-            "the pattern has {words} words, and {} has {inputs} inputs",
+            "the pattern has {words}, and {} has {inputs}",
             block.name
         )))
     }

@@ -3,9 +3,9 @@
 //! A file of `transcripts/` has lines `$ zimgurav ARGUMENTS`, each with what the command prints after it. With
 //! `ZIMGURAV_TRANSCRIPTS=write` in the environment the files are written anew; look at the difference before you keep it.
 
-mod common;
-
 use std::{env, fs};
+
+use crate::run;
 
 /// The files of transcripts.
 const FILES: [&str; 6] = ["help", "read", "bench", "envelope", "simulate", "search"];
@@ -18,7 +18,7 @@ fn made_again(transcript: &str) -> String {
     let pieces = commands.map(|command| {
         let words: Vec<&str> = command.split(' ').collect();
         assert_eq!(words[0], "zimgurav", "{command}");
-        format!("$ {command}\n{}", common::printed(&words[1..]))
+        format!("$ {command}\n{}", run::printed(&words[1..]))
     });
     pieces.collect()
 }
@@ -26,11 +26,11 @@ fn made_again(transcript: &str) -> String {
 #[test]
 fn print_the_same() {
     for name in FILES {
-        let path = format!("rust/command/tests/transcripts/{name}.txt");
-        let stored = common::text(&path);
+        let path = format!("rust/command/tests/command/transcripts/{name}.txt");
+        let stored = run::text(&path);
         let made = made_again(&stored);
         if env::var_os("ZIMGURAV_TRANSCRIPTS").is_some_and(|value| value == "write") {
-            fs::write(common::root().join(path), made).expect("a file that can be written");
+            fs::write(run::root().join(path), made).expect("a file that can be written");
             continue;
         }
         for (line, (stored, made)) in stored.lines().zip(made.lines()).enumerate() {
@@ -43,7 +43,7 @@ fn print_the_same() {
 /// No transcript is left out, and each has commands.
 #[test]
 fn are_all_made() {
-    let folder = common::root().join("rust/command/tests/transcripts");
+    let folder = run::root().join("rust/command/tests/command/transcripts");
     let entries = fs::read_dir(folder).expect("a folder");
     let mut names: Vec<String> = entries
         .map(|entry| {
@@ -59,7 +59,7 @@ fn are_all_made() {
     files.sort();
     assert_eq!(names, files);
     for name in files {
-        let transcript = common::text(&format!("rust/command/tests/transcripts/{name}"));
+        let transcript = run::text(&format!("rust/command/tests/command/transcripts/{name}"));
         assert!(transcript.starts_with("$ zimgurav "), "{name}");
     }
 }

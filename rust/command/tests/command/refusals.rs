@@ -1,12 +1,10 @@
 //! Every refusal is a sentence with its number, its place and what stands there; its status is 1, and nothing is
 //! written.
 
-mod common;
-
 use std::fs;
 use std::path::Path;
 
-use common::{file, run, run_on, scratch, text, Ended};
+use crate::run::{file, run, run_on, scratch, text, Ended};
 
 const CELLS: &str = "examples/cells.txt";
 

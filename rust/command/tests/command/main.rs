@@ -1,0 +1,8 @@
+//! The command, run as a person runs it.
+
+mod exchange;
+mod refusals;
+mod run;
+mod selftest;
+mod transcripts;
+mod usage;

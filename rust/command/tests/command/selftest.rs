@@ -1,0 +1,30 @@
+//! The stored calls, through the command.
+
+use std::fs;
+
+use crate::run::{printed, root, scratch, text};
+
+/// The line that two builds are compared by, as the reference page has it.
+#[test]
+fn prints_the_line_of_the_page() {
+    let line = printed(&["selftest"]);
+    assert_eq!(line, format!("1,925 calls, digest {}\n", calls::DIGEST));
+    let page = text("docs/REFERENCE.md");
+    assert!(
+        page.contains(&format!("    $ zimgurav selftest\n    {line}")),
+        "{line}"
+    );
+}
+
+/// The answers that it writes are those stored, file by file.
+#[test]
+fn writes_the_stored_answers() {
+    let path = scratch("answers.txt");
+    printed(&["selftest", "--answers", &path]);
+    let stored: String = calls::STORED
+        .iter()
+        .map(|file| text(&format!("rust/calls/stored/answers/{}.txt", file.name)))
+        .collect();
+    let written = fs::read_to_string(root().join(path)).expect("the answers");
+    assert!(written == stored, "the answers differ from those stored");
+}

@@ -1,0 +1,225 @@
+//! Wrong usage: a message on standard error, status 2, nothing on standard output.
+
+use std::fs;
+use std::path::Path;
+
+use crate::run::{printed, run, run_on, scratch, text, Ended};
+
+/// The command says just this on standard error.
+#[track_caller]
+fn wrong(arguments: &[&str], message: &str) {
+    let expected = Ended {
+        status: 2,
+        output: String::new(),
+        error: format!("zimgurav: {message}\n"),
+    };
+    assert_eq!(run(arguments), expected, "{arguments:?}");
+}
+
+/// The same, with where to find help.
+#[track_caller]
+fn misused(arguments: &[&str], message: &str) {
+    let help = format!("'zimgurav {} --help' says how it is used", arguments[0]);
+    wrong(arguments, &format!("{message}\n{help}"));
+}
+
+const BLOCK: &str = "examples/block_f.blk";
+
+#[test]
+fn subcommands() {
+    let ended = run(&[]);
+    assert_eq!((ended.status, &ended.output[..]), (2, ""));
+    let help = printed(&["--help"]);
+    assert_eq!(
+        ended.error,
+        format!("zimgurav: a subcommand is missing\n\n{help}")
+    );
+    wrong(
+        &["draw", BLOCK],
+        "there is no subcommand draw; 'zimgurav --help' lists them",
+    );
+}
+
+#[test]
+fn operands() {
+    misused(&["read"], "an operand is missing");
+    misused(&["search", BLOCK, "more"], "more is an operand too many");
+    misused(&["selftest", "more"], "more is an operand too many");
+    misused(&["simulate", BLOCK], "the pattern is missing");
+}
+
+#[test]
+fn options() {
+    misused(&["read", BLOCK, "--svg", "x"], "there is no option --svg");
+    misused(&["read", BLOCK, "-x"], "there is no option -x");
+    misused(
+        &["search", BLOCK, "--svg"],
+        "--svg takes a value: --svg FILE",
+    );
+    misused(&["read", BLOCK, "--nets=1"], "--nets takes no value");
+    misused(
+        &["search", BLOCK, "--budget", "1", "--budget=2"],
+        "--budget is given twice",
+    );
+    for number in ["ten", "-1", "", "1.5", "18446744073709551616"] {
+        misused(
+            &["search", BLOCK, "--budget", number],
+            &format!("--budget takes a number, and {number} is none"),
+        );
+    }
+    for option in ["--svg", "--csv", "--vcd", "--pattern"] {
+        misused(
+            &["search", BLOCK, option, "-"],
+            &format!("{option} takes the name of a file; - is standard input"),
+        );
+    }
+    misused(&["report", BLOCK], "-o FILE is missing");
+    let text = "examples/c17.bench";
+    misused(&["bench", text, "-o", "x"], "--cells LIST is missing");
+    misused(
+        &["bench", text, "--cells", "examples/cells.txt"],
+        "-o BLOCK is missing",
+    );
+}
+
+#[test]
+fn files() {
+    wrong(
+        &["read", "nowhere.blk"],
+        "nowhere.blk: No such file or directory (os error 2)",
+    );
+    wrong(
+        &["read", "examples"],
+        "examples: Is a directory (os error 21)",
+    );
+    wrong(&["read", "/dev/zero"], "/dev/zero: longer than 64 MiB");
+    // The answer is printed before a file that cannot be written ends the command.
+    let ended = run(&["envelope", BLOCK, "--csv", "nowhere/x.csv"]);
+    assert_eq!(ended.output, printed(&["envelope", BLOCK]));
+    assert_eq!(
+        (ended.status, &ended.error[..]),
+        (
+            2,
+            "zimgurav: nowhere/x.csv: No such file or directory (os error 2)\n"
+        )
+    );
+}
+
+#[test]
+fn texts_and_lists() {
+    misused(
+        &["read", "examples/c17.bench"],
+        "a bench text needs a cell list, --cells LIST",
+    );
+    misused(
+        &["read", BLOCK, "--cells", "examples/cells.txt"],
+        "--cells is for a bench text, and the name of one ends in .bench",
+    );
+    misused(
+        &["read", "-", "--cells", "-"],
+        "the text and the list cannot both be standard input",
+    );
+}
+
+/// A cell list in which a line of the example is another one, or is followed by others.
+#[track_caller]
+fn wrong_list(line: &str, lines: &str, message: &str) {
+    let path = scratch("cells.txt");
+    let list = text("examples/cells.txt");
+    let found = list.lines().find(|each| each.trim().starts_with(line));
+    let list = list.replace(found.expect("a line"), lines);
+    fs::write(&path, list).expect("written");
+    let arguments = ["read", "examples/c17.bench", "--cells", &path];
+    wrong(&arguments, &format!("{path}: {message}"));
+}
+
+#[test]
+fn cell_lists() {
+    wrong_list("NOR", "", "no line gives NOR");
+    wrong_list(
+        "OR",
+        "OR 0 1 1 1 1 1\nOR 0 1 1 1 1 1",
+        "line 9 gives OR a second time",
+    );
+    wrong_list(
+        "OR",
+        "INPUT 0 1 1 1 1 1",
+        "line 8: it begins with no kind of gate: INPUT 0 1 1 1 1 1",
+    );
+    wrong_list(
+        "OR",
+        "OR 0 1 1 1 1",
+        "line 8: a kind has contact, delay, rise, fall, peak lh and peak hl: OR 0 1 1 1 1",
+    );
+    wrong_list(
+        "OR",
+        "OR 0 256 1 1 1 1",
+        "line 8: delay 256 is no number from 0 to 255: OR 0 256 1 1 1 1",
+    );
+    wrong_list(
+        "OR",
+        "OR 0 1 1 1 1 65536",
+        "line 8: peak hl 65536 is no number from 0 to 65535: OR 0 1 1 1 1 65536",
+    );
+}
+
+#[test]
+fn tables() {
+    misused(
+        &["envelope", BLOCK, "--ohms", "65.536"],
+        "--ohms takes 0 to 65.535 with three decimals at most, and not 65.536",
+    );
+    misused(
+        &["envelope", BLOCK, "--ohms", "1", "--table", "x"],
+        "a table is either of a file, --table, or of one node, --ohms",
+    );
+    let path = scratch("table.txt");
+    let arguments = ["envelope", BLOCK, "--table", &path];
+    for (table, message) in [
+        (
+            "# none\n\n1 2 3\n",
+            "line 3: 3 resistances, and a node has 16, one for each contact",
+        ),
+        (
+            "1 1 1 1 1 1 1 1 1 1 1 1 1 1 1 65536",
+            "line 1: 65536 is no resistance from 0 to 65535 milliohms",
+        ),
+    ] {
+        fs::write(&path, table).expect("written");
+        wrong(&arguments, &format!("{path}: {message}"));
+    }
+}
+
+#[test]
+fn patterns() {
+    misused(
+        &["simulate", BLOCK, "lh"],
+        "the pattern has 1 word, and examples/block_f.blk has 2 inputs",
+    );
+    misused(
+        &["simulate", BLOCK, "lh", "LH"],
+        "a pattern is words l, h, hl and lh, and not lh LH",
+    );
+    wrong(
+        &["simulate", BLOCK, "nowhere.txt"],
+        "nowhere.txt: No such file or directory (os error 2)",
+    );
+    wrong(
+        &["simulate", BLOCK, "README.md"],
+        "README.md: a pattern is words l, h, hl and lh",
+    );
+}
+
+/// Words in one operand, and a pattern or a block on standard input, are as good as others.
+#[test]
+fn operands_in_other_forms() {
+    let simulated = printed(&["simulate", BLOCK, "lh", "hl"]);
+    assert_eq!(printed(&["simulate", BLOCK, "lh hl"]), simulated);
+    let ended = run_on(b"lh # first\nhl # second\n", &["simulate", BLOCK, "-"]);
+    assert_eq!((ended.status, ended.output), (0, simulated));
+    let block = crate::run::file(BLOCK);
+    let ended = run_on(&block, &["search", "-"]);
+    let expected = printed(&["search", BLOCK]).replace(BLOCK, "standard input");
+    assert_eq!((ended.status, ended.output), (0, expected));
+    assert!(!Path::new("-").exists());
+}
