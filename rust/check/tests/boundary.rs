@@ -1,5 +1,6 @@
-//! What the header, the wrapper and the reference page say of the calls beside what they answer: the version,
-//! the sizes, the kinds, the excitations and the refusals, in C as in Rust, and calls from many threads at once.
+//! What the header, the wrapper, the reference page and the file for pkg-config say of the calls beside what they
+//! answer: the version, the sizes, the kinds, the excitations and the refusals, in C as in Rust, and calls from many
+//! threads at once.
 
 use std::thread;
 
@@ -27,6 +28,14 @@ fn defined(name: &str, number: u64) {
 fn version() {
     assert_eq!(zimgurav::version(), zimgurav::VERSION);
     defined("VERSION", zimgurav::VERSION);
+}
+
+/// The file by which pkg-config finds the library has the version of the calls.
+#[test]
+fn version_for_pkg_config() {
+    let version = format!("Version: {}", zimgurav::VERSION);
+    let package = text("c/zimgurav.pc");
+    assert!(package.lines().any(|line| line == version), "{version}");
 }
 
 #[test]
