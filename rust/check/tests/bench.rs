@@ -4,16 +4,12 @@
 
 mod common;
 
-use check::repository::text;
 use check::sample::{
-    drawing, gate, input, plain_text, Arguments, Netlist, Random, Record, Shape, BLANKS, KIND_WORDS,
+    gate, input, plain_text, Arguments, Netlist, Random, Record, Shape, BLANKS, KIND_WORDS,
 };
 use common::{gives, gives_with, inputs, refused, third, with_gate};
 use zimgurav::kind::{AND, BUF, NAND, NOR, NOT, OR, XNOR, XOR};
-use zimgurav::{raw, store_bytes, work_bytes};
-use zimgurav::{
-    ANSWER_NUMBERS, BLOCK_BYTES, CONTACTS, LIST_BYTES, PATTERN_BYTES, RECORD_BYTES, SHEET_WORDS,
-};
+use zimgurav::{raw, ANSWER_NUMBERS, BLOCK_BYTES, LIST_BYTES};
 
 mod forms {
     use super::*;
@@ -437,76 +433,6 @@ fn blocks_written_as_texts() {
             arguments.text = plain_text(&netlist.lines);
             gives_with(&arguments, &netlist.block);
         }
-    }
-}
-
-mod examples {
-    use super::*;
-
-    const C17: &[u8] = include_bytes!("../../../examples/c17.bench");
-    const CELLS: &[u8] = include_bytes!("../../../examples/cells.list");
-
-    /// The circuit c17: five inputs and six NAND gates, with the fields of row 1 of the list.
-    #[test]
-    fn c17() {
-        let pins = [[0, 2], [2, 3], [1, 6], [6, 4], [5, 7], [7, 8]];
-        let gates = pins.map(|pins| drawing(gate(NAND, &pins), [1, 1, 1, 2], [60, 50]));
-        let mut arguments = Arguments::of_text(C17);
-        arguments.list = CELLS.to_vec();
-        gives_with(&arguments, &[inputs(5), gates.to_vec()].concat());
-    }
-
-    /// What the page says of searching it: one node of resistances of 1, hop limit 10, ratio 1,000, budget 200.
-    #[test]
-    fn c17_searched() {
-        let mut records = vec![0; BLOCK_BYTES];
-        let count = zimgurav::bench(C17, CELLS, &mut records).unwrap();
-        let (mut sheet, mut pattern) = (vec![0; SHEET_WORDS], vec![0; PATTERN_BYTES]);
-        let (mut work, mut store) = (vec![0; work_bytes(count)], vec![0; store_bytes(200)]);
-        let found = zimgurav::search(
-            &records[..RECORD_BYTES * count as usize],
-            10,
-            &[1; CONTACTS],
-            1000,
-            200,
-            &mut sheet,
-            &mut pattern,
-            &mut work,
-            &mut store,
-        );
-        let found = found.unwrap();
-        let (upper, lower) = (found.upper, found.lower);
-        let (splits, cases) = (found.splits, found.cases);
-        let line = format!(
-            "{}, U {upper}, L {lower}, {splits} splits, {cases} cases",
-            found.outcome
-        );
-        let page = text("examples/README.md");
-        assert!(
-            page.contains(&format!("    {count} nets, 5 inputs\n    {line}\n")),
-            "{line}"
-        );
-        assert_eq!(pattern[..5], [zimgurav::excitation::LH; 5]);
-    }
-
-    /// The list is what its table says: number, kind and word, contact, delay, rise, fall and peaks.
-    #[test]
-    fn cells() {
-        let page = text("examples/README.md");
-        let (_, table) = page.split_once("## `cells.list`").expect("a heading");
-        let (table, _) = table.split_once("\n## ").expect("the next one");
-        let mut list = Vec::new();
-        for row in table.lines().filter(|line| line.starts_with("| ")).skip(1) {
-            let numbers = row.split(['|', ' ']).filter_map(|word| word.parse().ok());
-            let numbers: Vec<u16> = numbers.collect();
-            let [_, kind, fields @ .., lh, hl] = &numbers[..] else {
-                panic!("{row}");
-            };
-            assert!(row.contains(KIND_WORDS[usize::from(kind - 2)]), "{row}");
-            list.extend(fields.iter().map(|&field| field as u8));
-            list.extend([lh.to_le_bytes(), hl.to_le_bytes()].concat());
-        }
-        assert_eq!(list, CELLS);
     }
 }
 

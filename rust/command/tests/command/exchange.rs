@@ -8,7 +8,7 @@ use zimgurav::{
     SHEET_WORDS,
 };
 
-use crate::run::{file, printed, scratch, text};
+use crate::run::{file, printed, scratch};
 
 const BLOCK: &str = "examples/adder24.blk";
 
@@ -214,12 +214,4 @@ fn fields_of_a_cell_list() {
             [1_000 * row + 301, 1_000 * row + 602]
         );
     }
-}
-
-/// The page of the examples shows what the command prints.
-#[test]
-fn examples_of_the_page() {
-    let page = text("examples/README.md");
-    let (_, shown) = page.split_once("    $ zimgurav ").expect("a command");
-    assert!(shown.contains("\n"));
 }

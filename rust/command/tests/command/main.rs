@@ -1,5 +1,6 @@
 //! The command, run as a person runs it.
 
+mod arrivals;
 mod exchange;
 mod refusals;
 mod run;
