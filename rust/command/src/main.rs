@@ -24,8 +24,6 @@ mod sheet;
 mod subcommand;
 mod summary;
 mod svg;
-mod table;
-mod vcd;
 mod xml;
 
 use std::env;
