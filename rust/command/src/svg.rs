@@ -409,6 +409,15 @@ mod tests {
         sheet(2, &[(0, 1, 320), (0, 2, 160)])
     }
 
+    /// The greatest word at every tick of every row.
+    fn largest() -> Sheet {
+        let mut words = Sheet::lent();
+        for row in words.chunks_mut(ROW_TICKS) {
+            row[..=GREATEST_QUIET as usize].fill(GREATEST_WORD);
+        }
+        Sheet::new(words, GREATEST_QUIET)
+    }
+
     fn drawn(contacts: &[usize], ceiling: Option<&Sheet>, simulated: Option<&Sheet>) -> String {
         let svg = draw(&Picture {
             title: "Search of a.blk",
@@ -475,8 +484,7 @@ mod tests {
 
     #[test]
     fn the_greatest_currents_are_marked() {
-        let (ceiling, simulated) = (ceiling(), simulated());
-        let svg = drawn(&[0, 5], Some(&ceiling), Some(&simulated));
+        let svg = drawn(&[0, 5], Some(&ceiling()), Some(&simulated()));
         for wanted in [
             ["ceiling", "640 µA", "at tick 2"],
             ["pattern", "320 µA", "at tick 1"],
@@ -485,6 +493,13 @@ mod tests {
         ] {
             assert!(has_words(&svg, &wanted), "{wanted:?}");
         }
+        assert!(svg.contains("\ncontact 5: ceiling 80 µA at tick 3, pattern 0 µA at all ticks<"));
+    }
+
+    #[test]
+    fn a_dot_is_at_each_greatest_current() {
+        let (ceiling, simulated) = (ceiling(), simulated());
+        let svg = drawn(&[0, 5], Some(&ceiling), Some(&simulated));
         let (ring, spot) = (
             Layer::ceiling(&ceiling).dot,
             Layer::simulated(&simulated, false).dot,
@@ -494,7 +509,6 @@ mod tests {
         }
         // Three at currents, and one beside each row for each sheet.
         assert_eq!(svg.matches("<circle ").count(), 3 + 4);
-        assert!(svg.contains("\ncontact 5: ceiling 80 µA at tick 3, pattern 0 µA at all ticks<"));
     }
 
     #[test]
@@ -570,11 +584,7 @@ mod tests {
     #[test]
     fn the_largest_block_fits() {
         let contacts: Vec<usize> = (0..CONTACTS).collect();
-        let mut words = Sheet::lent();
-        for row in words.chunks_mut(ROW_TICKS) {
-            row[..=GREATEST_QUIET as usize].fill(GREATEST_WORD);
-        }
-        let largest = Sheet::new(words, GREATEST_QUIET);
+        let largest = largest();
         let svg = drawn(&contacts, Some(&largest), Some(&largest));
         assert!(has_words(&svg, &["contact 15", "20,000 A", "0"]));
         assert!(has_words(&svg, &["17,095,787,775 µA", "at tick 0"]));
