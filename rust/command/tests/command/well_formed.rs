@@ -1,9 +1,6 @@
 //! The checker of SVG and HTML texts refuses what it should.
 
-#[path = "common/markup.rs"]
-mod markup;
-
-use markup::well_formed;
+use crate::markup::well_formed;
 
 #[test]
 fn well_formed_texts_are_taken() {

@@ -1,0 +1,87 @@
+//! What the documents show of the command: every `$ zimgurav` on them prints what stands after it.
+
+use crate::run::{file, printed, run_on, text};
+
+/// The documents, and how many commands each shows with what it prints.
+const DOCUMENTS: [(&str, usize); 3] = [
+    ("README.md", 0),
+    ("docs/REFERENCE.md", 1),
+    ("examples/README.md", 3),
+];
+
+/// The commands of a document, each with the lines that it is said to print.
+fn shown(document: &str) -> Vec<(String, String)> {
+    let mut shown: Vec<(String, String)> = Vec::new();
+    let mut inside = false;
+    for line in document.lines() {
+        if let Some(command) = line.strip_prefix("    $ ") {
+            inside = command.starts_with("zimgurav ");
+            if inside {
+                shown.push((command.to_string(), String::new()));
+            }
+        } else if inside && (line.is_empty() || line.starts_with("    ")) {
+            let (_, lines) = shown.last_mut().expect("a command");
+            *lines += line.get(4..).unwrap_or_default();
+            *lines += "\n";
+        } else {
+            inside = false;
+        }
+    }
+    shown
+}
+
+#[test]
+fn show_what_is_printed() {
+    for (path, count) in DOCUMENTS {
+        let commands = shown(&text(path));
+        assert_eq!(commands.len(), count, "{path}");
+        for (command, lines) in commands {
+            let words: Vec<&str> = command.split(' ').skip(1).collect();
+            let now = printed(&words);
+            assert_eq!(lines.trim_end(), now.trim_end(), "{path}: {command}");
+        }
+    }
+}
+
+/// The refusal that the reference page shows is one that the command says.
+#[test]
+fn show_a_refusal() {
+    let page = text("docs/REFERENCE.md");
+    let (_, refusal) = page
+        .split_once("    zimgurav: block.blk: ")
+        .expect("a refusal");
+    let (refusal, _) = refusal.split_once("\n\n").expect("its end");
+    let mut block = file("examples/block_f.blk");
+    block[64] = 3;
+    let ended = run_on(&block, &["read", "-"]);
+    let expected = format!(
+        "zimgurav: standard input: {}\n",
+        refusal.replace("\n    ", "\n")
+    );
+    assert_eq!(ended.error, expected);
+}
+
+/// The reference page has every subcommand and every option of it.
+#[test]
+fn list_the_options() {
+    let page = text("docs/REFERENCE.md");
+    let (_, section) = page
+        .split_once("## The command `zimgurav`")
+        .expect("the section");
+    let (section, _) = section.split_once("\n## ").expect("its end");
+    let whole = printed(&["--help"]);
+    let names = whole.lines().filter_map(|line| line.strip_prefix("  "));
+    let names: Vec<&str> = names
+        .map(|line| line.split(' ').next().unwrap_or(""))
+        .collect();
+    assert_eq!(names.len(), 7);
+    for name in names {
+        assert!(section.contains(&format!("| `{name}")), "{name}");
+        let help = printed(&[name, "--help"]);
+        let options = help.lines().filter_map(|line| line.strip_prefix("  "));
+        for option in options.filter_map(|line| line.split("  ").next()) {
+            let known = section.contains(&format!("`{}`", option.trim_end()));
+            assert!(known, "{name}: {option}");
+        }
+    }
+}

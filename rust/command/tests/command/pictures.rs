@@ -1,0 +1,143 @@
+//! Pictures and pages: well-formed, with nothing from elsewhere, and those of the documents as the command draws them.
+
+use std::collections::BTreeSet;
+use std::fs;
+
+use crate::markup::well_formed;
+use crate::run::{printed, root, run_on, scratch, text};
+
+/// The blocks of the examples, as operands.
+const BLOCKS: [&[&str]; 4] = [
+    &["examples/block_s.blk"],
+    &["examples/block_f.blk"],
+    &["examples/adder24.blk"],
+    &["examples/c17.bench", "--cells", "examples/cells.txt"],
+];
+
+/// The text that a command writes to the file of its last option.
+fn written(arguments: &[&str], name: &str) -> String {
+    let path = scratch(name);
+    printed(&[arguments, &[&path]].concat());
+    fs::read_to_string(path).expect("what was written")
+}
+
+/// It is well-formed, and neither runs nor loads anything.
+fn stands_alone(markup: &str, what: &str) {
+    assert_eq!(well_formed(markup), Ok(()), "{what}");
+    for loading in [
+        "<script",
+        "<link",
+        "<img",
+        "src=",
+        "href",
+        "url(",
+        "@import",
+        "javascript",
+    ] {
+        assert!(!markup.contains(loading), "{what} has {loading}");
+    }
+    let addresses = markup.matches("http").count();
+    let names = markup
+        .matches("xmlns=\"http://www.w3.org/2000/svg\"")
+        .count();
+    assert_eq!(addresses, names, "{what}");
+}
+
+#[test]
+fn pictures_stand_alone() {
+    for block in BLOCKS {
+        for subcommand in ["envelope", "search"] {
+            let arguments = [&[subcommand], block, &["--svg"]].concat();
+            let picture = written(&arguments, "picture.svg");
+            stands_alone(&picture, &format!("{arguments:?}"));
+        }
+    }
+    let simulate = ["simulate", "examples/block_f.blk", "lh", "lh", "--svg"];
+    stands_alone(&written(&simulate, "simulated.svg"), "a simulation");
+}
+
+#[test]
+fn pages_stand_alone() {
+    for block in BLOCKS {
+        let arguments = [&["report"], block, &["-o"]].concat();
+        let page = written(&arguments, "page.html");
+        stands_alone(&page, &format!("{arguments:?}"));
+        assert_eq!(page.matches("<svg ").count(), 2, "{block:?}");
+    }
+}
+
+/// A block without gates has a picture and a page too.
+#[test]
+fn without_gates() {
+    let input: [u8; 20] = std::array::from_fn(|at| match at {
+        0 => 1,
+        18 => 15,
+        _ => 0,
+    });
+    let path = scratch("no-gates.html");
+    let ended = run_on(&input, &["report", "-", "-o", &path]);
+    assert_eq!((ended.status, &ended.error[..]), (0, ""));
+    let page = fs::read_to_string(path).expect("the page");
+    stands_alone(&page, "a page without gates");
+    assert!(page.contains("The block has no gates"));
+    let ended = run_on(&input, &["search", "-"]);
+    assert!(ended
+        .output
+        .ends_with("pattern      lh\n\ncontact   at most   at tick   pattern   at tick\n"));
+}
+
+/// Names that have to be escaped.
+#[test]
+fn names_are_escaped() {
+    let path = scratch("a <b> & \"c\".blk");
+    fs::copy(root().join("examples/block_s.blk"), &path).expect("a copy");
+    stands_alone(
+        &written(&["search", &path, "--svg"], "escaped.svg"),
+        "a picture",
+    );
+    let page = written(&["report", &path, "-o"], "escaped.html");
+    stands_alone(&page, "a page");
+    assert!(page.contains("a &lt;b&gt; &amp; &quot;c&quot;.blk"));
+}
+
+/// What a page says is what the subcommands print.
+#[test]
+fn a_page_has_the_numbers() {
+    let page = written(&["report", "examples/adder24.blk", "-o"], "adder24.html");
+    for subcommand in ["search", "envelope", "read"] {
+        let output = printed(&[subcommand, "examples/adder24.blk"]);
+        let numbers = output.lines().filter_map(|line| line.split_once("   "));
+        let numbers: Vec<_> = numbers
+            .filter(|(name, _)| !name.trim().is_empty())
+            .collect();
+        assert!(numbers.len() > 1, "{output}");
+        for (name, words) in numbers.iter().filter(|(name, _)| *name != "contact") {
+            let row = format!("<tr><th>{}</th><td>{}</td></tr>", name.trim(), words.trim());
+            assert!(page.contains(&row), "{row}");
+        }
+    }
+    let tick = "<tr><td>1</td><td>260</td><td>280</td>";
+    assert!(page.contains(tick), "the first tick of the sheet");
+}
+
+/// The pictures of the documents are those that the commands beside them draw, and no others.
+#[test]
+fn pictures_of_the_documents() {
+    let page = text("docs/pictures/README.md");
+    let commands = page
+        .lines()
+        .filter_map(|line| line.strip_prefix("    zimgurav "));
+    let mut drawn = BTreeSet::from(["README.md".to_string()]);
+    for command in commands {
+        let words: Vec<&str> = command.split(' ').collect();
+        let (path, arguments) = words.split_last().expect("a file");
+        let picture = written(arguments, "document.svg");
+        assert!(picture == text(path), "{command}");
+        drawn.insert(path.replace("docs/pictures/", ""));
+    }
+    let entries = fs::read_dir(root().join("docs/pictures")).expect("a folder");
+    let files = entries.map(|entry| entry.expect("a file").file_name().into_string());
+    let files: Result<BTreeSet<String>, _> = files.collect();
+    assert_eq!(files.expect("text"), drawn);
+    assert!(drawn.len() > 4, "{drawn:?}");
+}
