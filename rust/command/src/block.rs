@@ -41,10 +41,6 @@ impl Block {
 
     /// Turns a bench text into a block, by a cell list.
     pub fn of_text(path: &OsStr, cells: &OsStr) -> Result<Self, Failure> {
-        if path == "-" && cells == "-" {
-            let message = "the text and the list cannot both be standard input";
-            return Err(Failure::usage(message));
-        }
         let cells = Cells::load(cells)?;
         let (name, bytes) = (files::shown(path), files::read(path)?);
         let text = BenchText {

@@ -4,6 +4,7 @@ use std::ffi::OsStr;
 use std::fs::{self, File};
 use std::io::{self, Read};
 use std::path::Path;
+use std::sync::atomic::{AtomicBool, Ordering};
 
 use crate::failure::Failure;
 
@@ -20,12 +21,18 @@ pub fn shown(path: &OsStr) -> String {
     }
 }
 
-/// The bytes of a file; `-` is standard input.
+/// Whether standard input was read.
+static INPUT_READ: AtomicBool = AtomicBool::new(false);
+
+/// The bytes of a file; `-` is standard input, which can be read once.
 pub fn read(path: &OsStr) -> Result<Vec<u8>, Failure> {
-    let read = if path == "-" {
-        bytes(io::stdin().lock())
-    } else {
+    let read = if path != "-" {
         File::open(path).and_then(bytes)
+    } else if INPUT_READ.swap(true, Ordering::Relaxed) {
+        let message = "standard input is given for more than one file";
+        return Err(Failure::usage(message));
+    } else {
+        bytes(io::stdin().lock())
     };
     let name = shown(path);
     let bytes = read.map_err(|error| Failure::file(&name, error))?;

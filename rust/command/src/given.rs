@@ -6,7 +6,7 @@ use std::path::Path;
 use crate::failure::Failure;
 
 /// An option that a subcommand takes.
-pub struct Choice {
+pub struct CommandOption {
     /// As it is written, `--budget`.
     pub name: &'static str,
     /// What stands after it, `N`; nothing for an option that is given or not.
@@ -25,7 +25,7 @@ impl Given {
     /// Takes the arguments apart, by the options that there are. `--` ends the options.
     pub fn parse(
         arguments: impl IntoIterator<Item = OsString>,
-        choices: &[&Choice],
+        options: &[&CommandOption],
     ) -> Result<Self, Failure> {
         let mut arguments = arguments.into_iter();
         let mut given = Given {
@@ -38,7 +38,7 @@ impl Given {
             } else if argument == "-" || !argument.as_encoded_bytes().starts_with(b"-") {
                 given.operands.push(argument);
             } else {
-                given.take_option(&argument, &mut arguments, choices)?;
+                given.take_option(&argument, &mut arguments, options)?;
             }
         }
         Ok(given)
@@ -49,7 +49,7 @@ impl Given {
         &mut self,
         argument: &OsStr,
         rest: &mut impl Iterator<Item = OsString>,
-        choices: &[&Choice],
+        options: &[&CommandOption],
     ) -> Result<(), Failure> {
         let shown = argument.display();
         let written = argument.to_str().unwrap_or_default();
@@ -57,14 +57,14 @@ impl Given {
             Some((name, value)) => (name, Some(OsString::from(value))),
             None => (written, None),
         };
-        let Some(choice) = choices.iter().find(|choice| choice.name == name) else {
+        let Some(option) = options.iter().find(|option| option.name == name) else {
             return Err(Failure::usage(format_args!("there is no option {shown}")));
         };
-        if self.has(choice.name) {
+        if self.has(option.name) {
             let message = format_args!("{name} is given twice");
             return Err(Failure::usage(message));
         }
-        let value = match (choice.value, value) {
+        let value = match (option.value, value) {
             (None, None) => OsString::new(),
             (None, Some(_)) => return Err(Failure::usage(format_args!("{name} takes no value"))),
             (Some(_), Some(value)) => value,
@@ -73,7 +73,7 @@ impl Given {
                 Failure::usage(message)
             })?,
         };
-        self.options.push((choice.name, value));
+        self.options.push((option.name, value));
         Ok(())
     }
 

@@ -30,12 +30,12 @@ pub fn of(subcommand: &Subcommand) -> String {
         operands,
         summary,
         about,
-        choices,
+        options,
         ..
     } = subcommand;
-    let options = choices.iter().map(|choice| {
-        let written = format!("{} {}", choice.name, choice.value.unwrap_or_default());
-        format!("  {written:<16} {}\n", choice.meaning)
+    let options = options.iter().map(|option| {
+        let written = format!("{} {}", option.name, option.value.unwrap_or_default());
+        format!("  {written:<16} {}\n", option.meaning)
     });
     let options: String = options.collect();
     let usage = [name, operands, "OPTIONS"].into_iter();

@@ -82,7 +82,7 @@ fn run_subcommand(subcommand: &Subcommand, rest: &[OsString]) -> Result<(), Fail
     if rest.iter().any(is_help) {
         return output::print(&help::of(subcommand));
     }
-    let given = Given::parse(rest.iter().cloned(), subcommand.choices);
+    let given = Given::parse(rest.iter().cloned(), subcommand.options);
     let done = given.and_then(|given| (subcommand.run)(&given));
     done.map_err(|mut failure| {
         if failure.kind == Kind::Usage {

@@ -6,7 +6,7 @@ use std::path::Path;
 use crate::block::Block;
 use crate::evaluation::{self, Setting};
 use crate::failure::Failure;
-use crate::given::{Choice, Given};
+use crate::given::{CommandOption, Given};
 use crate::number::grouped;
 use crate::options::*;
 use crate::pattern::Pattern;
@@ -24,7 +24,7 @@ pub struct Subcommand {
     pub summary: &'static str,
     /// What else a user has to know.
     pub about: &'static str,
-    pub choices: &'static [&'static Choice],
+    pub options: &'static [&'static CommandOption],
     pub run: fn(&Given) -> Result<(), Failure>,
 }
 
@@ -39,7 +39,7 @@ pub const SUBCOMMANDS: [Subcommand; 7] = [
         operands: "BLOCK",
         summary: "Says what a block holds.",
         about: OF_BLOCKS,
-        choices: &[&CELLS, &NETS],
+        options: &[&CELLS, &NETS],
         run: read,
     },
     Subcommand {
@@ -51,7 +51,7 @@ The cell list has a line for each kind of gate (AND, NAND, OR, NOR, XOR, XNOR, N
 BUF): the kind, its contact (0 to 15), delay (1 to 63 ticks), rise and fall (1 to
 127 ticks), and the peaks in microamperes where the output rises and where it falls.
 # begins a comment. TEXT may be - for standard input.",
-        choices: &[&CELLS, &BLOCK_FILE],
+        options: &[&CELLS, &BLOCK_FILE],
         run: bench,
     },
     Subcommand {
@@ -59,7 +59,7 @@ BUF): the kind, its contact (0 to 15), delay (1 to 63 ticks), rise and fall (1 t
         operands: "BLOCK",
         summary: "Gives a ceiling on the currents and the drop of every pattern.",
         about: OF_BLOCKS,
-        choices: &[&CELLS, &HOP_LIMIT, &TABLE, &OHMS, &SVG, &CSV, &VCD],
+        options: &[&CELLS, &HOP_LIMIT, &TABLE, &OHMS, &SVG, &CSV, &VCD],
         run: envelope,
     },
     Subcommand {
@@ -72,7 +72,7 @@ PATTERN is a word for each input, l, h, hl or lh, or a file of such words, as se
 
 BLOCK is a block file, or a bench text with --cells LIST: a file whose name ends
 in .bench. - is standard input, a bench text where --cells is given.",
-        choices: &[&CELLS, &TABLE, &OHMS, &SVG, &CSV, &VCD],
+        options: &[&CELLS, &TABLE, &OHMS, &SVG, &CSV, &VCD],
         run: simulate,
     },
     Subcommand {
@@ -80,7 +80,7 @@ in .bench. - is standard input, a bench text where --cells is given.",
         operands: "BLOCK",
         summary: "Tightens the ceiling, and gives the worst pattern that it found.",
         about: OF_BLOCKS,
-        choices: &[
+        options: &[
             &CELLS, &HOP_LIMIT, &TABLE, &OHMS, &RATIO, &BUDGET, &PATTERN, &SVG, &CSV, &VCD,
         ],
         run: search,
@@ -90,7 +90,7 @@ in .bench. - is standard input, a bench text where --cells is given.",
         operands: "BLOCK",
         summary: "Writes a page with the numbers, the pictures and the tables.",
         about: OF_BLOCKS,
-        choices: &[&CELLS, &HOP_LIMIT, &TABLE, &OHMS, &RATIO, &BUDGET, &PAGE],
+        options: &[&CELLS, &HOP_LIMIT, &TABLE, &OHMS, &RATIO, &BUDGET, &PAGE],
         run: report,
     },
     Subcommand {
@@ -100,7 +100,7 @@ in .bench. - is standard input, a bench text where --cells is given.",
         about: "\
 Two builds that print the same line give the same answers, sheets, patterns, stores
 and records on all of these calls.",
-        choices: &[&ANSWERS],
+        options: &[&ANSWERS],
         run: selftest,
     },
 ];
@@ -117,12 +117,16 @@ fn operand(given: &Given) -> Result<&OsStr, Failure> {
     }
 }
 
-/// The value of an option that may not be left out.
-fn needed<'a>(given: &'a Given, choice: &Choice) -> Result<&'a OsStr, Failure> {
-    given.value(choice.name).ok_or_else(|| {
-        let what = choice.value.unwrap_or_default();
-        Failure::usage(format_args!("{} {what} is missing", choice.name))
-    })
+/// An option that may not be left out was.
+fn missing(option: &CommandOption) -> Failure {
+    let value = option.value.unwrap_or_default();
+    Failure::usage(format_args!("{} {value} is missing", option.name))
+}
+
+/// The file that an option which may not be left out names for the command to write.
+fn written_file<'a>(given: &'a Given, option: &CommandOption) -> Result<&'a Path, Failure> {
+    let path = given.written_file(option.name)?;
+    path.ok_or_else(|| missing(option))
 }
 
 fn block(given: &Given, path: &OsStr) -> Result<Block, Failure> {
@@ -140,13 +144,10 @@ fn read(given: &Given) -> Result<(), Failure> {
 }
 
 fn bench(given: &Given) -> Result<(), Failure> {
-    let (text, cells) = (operand(given)?, needed(given, &CELLS)?);
-    needed(given, &BLOCK_FILE)?;
-    let path = given.written_file(BLOCK_FILE.name)?;
-    let block = Block::of_text(text, cells)?;
-    if let Some(path) = path {
-        files::write(path, &block.file)?;
-    }
+    let cells = given.value(CELLS.name).ok_or_else(|| missing(&CELLS))?;
+    let path = written_file(given, &BLOCK_FILE)?;
+    let block = Block::of_text(operand(given)?, cells)?;
+    files::write(path, &block.file)?;
     output::print(&format!("{}: {}\n", block.name, block.size()))
 }
 
@@ -225,12 +226,10 @@ fn search(given: &Given) -> Result<(), Failure> {
 }
 
 fn report(given: &Given) -> Result<(), Failure> {
-    needed(given, &PAGE)?;
-    let path = given.written_file(PAGE.name)?;
+    let path = written_file(given, &PAGE)?;
     let setting = Setting::given(given)?;
     let block = block(given, operand(given)?)?;
-    let page = report::page(&block, &setting)?;
-    path.map_or(Ok(()), |path| files::write(path, page))
+    files::write(path, report::page(&block, &setting)?)
 }
 
 fn selftest(given: &Given) -> Result<(), Failure> {

@@ -2,7 +2,7 @@
 
 use std::iter;
 
-use zimgurav::{Found, Outcome, Word};
+use zimgurav::{Found, Outcome, Word, CONTACTS};
 
 use crate::block::Block;
 use crate::columns::Columns;
@@ -32,6 +32,11 @@ pub fn of_block(block: &Block) -> Numbers {
         .map(|(kind, count)| format!("{} {kind}", grouped(count as u64)))
         .collect();
     let contacts: Vec<String> = block.contacts().iter().map(usize::to_string).collect();
+    let contacts = format!(
+        "{} of {CONTACTS} used: {}",
+        contacts.len(),
+        contacts.join(", ")
+    );
     let arrivals = block.arrivals();
     let of_gates = &arrivals[block.counts.inputs as usize..];
     let arrivals = match (of_gates.iter().min(), of_gates.iter().max()) {
@@ -44,10 +49,7 @@ pub fn of_block(block: &Block) -> Numbers {
         ("inputs", with_parts(block.counts.inputs, &sets(block))),
         ("gates", with_parts(gates, &kinds.join(", "))),
         ("arrivals", arrivals),
-        (
-            "contacts",
-            with_parts(contacts.len() as u64, &contacts.join(", ")),
-        ),
+        ("contacts", contacts),
     ]
 }
 

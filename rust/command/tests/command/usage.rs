@@ -3,7 +3,7 @@
 use std::fs;
 use std::path::Path;
 
-use crate::run::{printed, run, run_on, scratch, text, Ended};
+use crate::run::{file, printed, run, run_on, scratch, text, Ended};
 
 /// The command says just this on standard error.
 #[track_caller]
@@ -115,10 +115,21 @@ fn texts_and_lists() {
         &["read", BLOCK, "--cells", "examples/cells.txt"],
         "--cells is for a bench text, and the name of one ends in .bench",
     );
-    misused(
-        &["read", "-", "--cells", "-"],
-        "the text and the list cannot both be standard input",
-    );
+}
+
+/// The second file for which standard input is given has nothing to read.
+#[test]
+fn standard_input_twice() {
+    let table = b"1 1 1 1 1 1 1 1 1 1 1 1 1 1 1 1";
+    let ended = run_on(table, &["simulate", "-", "--table", "-", "lh"]);
+    let expected = Ended {
+        status: 2,
+        output: String::new(),
+        error: "zimgurav: standard input is given for more than one file\n\
+                'zimgurav simulate --help' says how it is used\n"
+            .to_string(),
+    };
+    assert_eq!(ended, expected);
 }
 
 /// A cell list in which a line of the example is another one, or is followed by others.
@@ -217,7 +228,7 @@ fn operands_in_other_forms() {
     assert_eq!(printed(&["simulate", BLOCK, "lh hl"]), simulated);
     let ended = run_on(b"lh # first\nhl # second\n", &["simulate", BLOCK, "-"]);
     assert_eq!((ended.status, ended.output), (0, simulated));
-    let block = crate::run::file(BLOCK);
+    let block = file(BLOCK);
     let ended = run_on(&block, &["search", "-"]);
     let expected = printed(&["search", BLOCK]).replace(BLOCK, "standard input");
     assert_eq!((ended.status, ended.output), (0, expected));
