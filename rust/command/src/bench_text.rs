@@ -6,6 +6,9 @@ use crate::cells::Cells;
 use crate::failure::Failure;
 use crate::number::counted;
 
+/// The most bytes of a line that are shown.
+const MOST_SHOWN: usize = 160;
+
 /// A bench text, by its lines.
 pub struct BenchText<'a> {
     /// The text's file.
@@ -31,7 +34,8 @@ impl BenchText<'_> {
             refused::LINE | refused::NAME => (self.name, Some("line"), self.line(place as usize)),
             refused::INPUT | refused::ARRIVAL => {
                 let line = self.giving_lines().nth(place as usize);
-                (self.name, Some("net"), self.line(line.unwrap_or(0)))
+                let line = line.expect("a line gives each record");
+                (self.name, Some("net"), self.line(line))
             }
             _ => {
                 let given = counted(self.giving_lines().count() as u64, "record");
@@ -41,10 +45,12 @@ impl BenchText<'_> {
         Failure::refused(of, refusal, at, &standing)
     }
 
-    /// A line in words, by its number from 1.
+    /// A line, or its beginning, by its number from 1.
     fn line(&self, number: usize) -> String {
         let line = self.lines().nth(number - 1).unwrap_or_default();
-        format!("line {number}: {}", line.escape_ascii())
+        let (shown, rest) = line.split_at(line.len().min(MOST_SHOWN));
+        let rest = if rest.is_empty() { "" } else { " ..." };
+        format!("line {number}: {}{rest}", shown.escape_ascii())
     }
 
     fn lines(&self) -> impl Iterator<Item = &[u8]> {

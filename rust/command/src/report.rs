@@ -5,8 +5,7 @@ use std::iter;
 
 use crate::block::Block;
 use crate::columns::Columns;
-use crate::evaluation::{self, Drawn, Searched, Setting};
-use crate::failure::Failure;
+use crate::evaluation::{Drawn, Searched, Setting};
 use crate::number::grouped;
 use crate::sheet::Sheet;
 use crate::summary::{self, Numbers};
@@ -28,28 +27,26 @@ p.made { color: #555; margin-top: 2.5rem; }
 @media print { body { margin: 0; } h2 { break-after: avoid; } tr, svg { break-inside: avoid; } }
 ";
 
-/// Searches the block, takes its envelope, and writes the page about them.
-pub fn page(block: &Block, setting: &Setting) -> Result<String, Failure> {
-    let ceiling = evaluation::envelope(block, setting)?;
-    let searched = evaluation::search(block, setting)?;
+/// The page about a search of the block and its envelope.
+pub fn page(block: &Block, setting: &Setting, searched: &Searched, ceiling: &Drawn) -> String {
     let title = escaped(&format!("Supply current of {}", block.name));
     let (size, values) = (block.size(), escaped(&summary::search_setting(setting)));
     let sections = [
-        search_section(block, setting, &searched),
-        currents_section(block, &searched, &ceiling),
-        envelope_section(block, &ceiling),
-        pattern_section(block, &searched),
+        search_section(block, setting, searched),
+        currents_section(block, searched, ceiling),
+        envelope_section(block, ceiling),
+        pattern_section(block, searched),
         block_section(block),
         sheet_section(block, &searched.ceiling),
     ];
-    Ok(format!(
+    format!(
         "<!DOCTYPE html>\n<html lang=\"en\">\n<head>\n<meta charset=\"utf-8\"/>\n<title>{title}</title>\n\
          <style>{STYLE}</style>\n</head>\n<body>\n<h1>{title}</h1>\n<p>{size}<br/>{values}</p>\n\
          {}<p class=\"made\">Made by zimgurav, version {} of the calls. \
          Every current and every drop is an answer of the proved library.</p>\n</body>\n</html>\n",
         sections.concat(),
         zimgurav::VERSION,
-    ))
+    )
 }
 
 fn search_section(block: &Block, setting: &Setting, searched: &Searched) -> String {

@@ -229,7 +229,12 @@ fn report(given: &Given) -> Result<(), Failure> {
     let path = written_file(given, &PAGE)?;
     let setting = Setting::given(given)?;
     let block = block(given, operand(given)?)?;
-    files::write(path, report::page(&block, &setting)?)
+    let ceiling = evaluation::envelope(&block, &setting)?;
+    let searched = evaluation::search(&block, &setting)?;
+    let page = report::page(&block, &setting, &searched, &ceiling);
+    files::write(path, page)?;
+    let (name, bounds) = (&block.name, summary::bounds(&searched.found));
+    output::print(&format!("{name}: {bounds}\n"))
 }
 
 fn selftest(given: &Given) -> Result<(), Failure> {

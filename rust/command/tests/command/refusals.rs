@@ -314,6 +314,15 @@ mod of_a_text {
         );
     }
 
+    /// Of a long line the beginning is shown.
+    #[test]
+    fn long_line() {
+        let line = "c = NAND(a, b) ".repeat(20);
+        let ended = run_on(line.as_bytes(), &["read", "-", "--cells", CELLS]);
+        let shown = format!("  line 1: {} ...\n", &line[..160]);
+        assert!(ended.error.ends_with(&shown), "{ended:?}");
+    }
+
     #[test]
     fn name() {
         unread(

@@ -8,7 +8,9 @@ use std::{env, fs};
 use crate::run;
 
 /// The files of transcripts.
-const FILES: [&str; 6] = ["help", "read", "bench", "envelope", "simulate", "search"];
+const FILES: [&str; 7] = [
+    "help", "read", "bench", "envelope", "simulate", "search", "report",
+];
 
 /// What a transcript has to be: each command of it, and after it what it prints now.
 fn made_again(transcript: &str) -> String {
