@@ -4,16 +4,15 @@ use crate::subcommand::{Subcommand, SUBCOMMANDS};
 
 /// The help of the whole command.
 pub fn whole() -> String {
-    let lines = SUBCOMMANDS.iter().map(|subcommand| {
-        let usage = format!("{} {}", subcommand.name, subcommand.operands);
-        format!("  {usage:<23} {}\n", subcommand.summary)
-    });
+    let lines = SUBCOMMANDS
+        .iter()
+        .map(|subcommand| format!("  {:<10} {}\n", subcommand.name, subcommand.summary));
     let lines: String = lines.collect();
     format!(
         "\
 zimgurav: proved ceilings on the supply current of a block of gates
 
-usage: zimgurav SUBCOMMAND OPERANDS OPTIONS
+usage: zimgurav SUBCOMMAND ...
 
 {lines}
 'zimgurav SUBCOMMAND --help' says more of each, 'zimgurav --version' the version.
@@ -27,7 +26,7 @@ an answer could not be written.
 pub fn of(subcommand: &Subcommand) -> String {
     let Subcommand {
         name,
-        operands,
+        usage,
         summary,
         about,
         options,
@@ -37,9 +36,6 @@ pub fn of(subcommand: &Subcommand) -> String {
         let written = format!("{} {}", option.name, option.value.unwrap_or_default());
         format!("  {written:<16} {}\n", option.meaning)
     });
-    let options: String = options.collect();
-    let usage = [name, operands, "OPTIONS"].into_iter();
-    let usage: Vec<&str> = usage.filter(|word| !word.is_empty()).collect();
-    let usage = usage.join(" ");
-    format!("usage: zimgurav {usage}\n\n{summary}\n\n{about}\n\n{options}")
+    let (about, options) = (about.join("\n\n"), options.collect::<String>());
+    format!("usage: zimgurav {name} {usage}\n\n{summary}\n\n{about}\n\n{options}")
 }

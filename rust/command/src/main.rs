@@ -16,6 +16,7 @@ mod number;
 mod options;
 mod output;
 mod pattern;
+mod picture;
 mod progress;
 mod record;
 mod report;

@@ -1,5 +1,7 @@
 //! Numbers as a person reads them.
 
+use zimgurav::Word;
+
 /// The digits in groups of three: `11,617`.
 pub fn grouped(number: u64) -> String {
     let digits = number.to_string();
@@ -11,6 +13,11 @@ pub fn grouped(number: u64) -> String {
         grouped.push(digit);
     }
     grouped
+}
+
+/// A current with its unit: `640 µA`.
+pub fn microamperes(current: Word) -> String {
+    format!("{} µA", grouped(current))
 }
 
 /// So many things: `1 split`, `200 splits`.

@@ -7,9 +7,10 @@ use crate::block::Block;
 use crate::columns::Columns;
 use crate::evaluation::{Drawn, Searched, Setting};
 use crate::number::grouped;
+use crate::picture::Picture;
 use crate::sheet::Sheet;
 use crate::summary::{self, Numbers};
-use crate::svg::{self, Picture};
+use crate::svg;
 use crate::xml::escaped;
 
 /// How the page looks, on a screen and on paper.
@@ -50,13 +51,7 @@ pub fn page(block: &Block, setting: &Setting, searched: &Searched, ceiling: &Dra
 }
 
 fn search_section(block: &Block, setting: &Setting, searched: &Searched) -> String {
-    let picture = svg::draw(&Picture {
-        title: &format!("Search of {}", block.name),
-        caption: &summary::bounds(&searched.found),
-        contacts: &block.contacts(),
-        ceiling: Some(&searched.ceiling),
-        simulated: Some(&searched.simulated.sheet),
-    });
+    let picture = svg::draw(&Picture::of_search(block, searched));
     let numbers = numbers(&summary::of_search(setting, searched));
     section("Search", &(numbers + &picture))
 }
@@ -73,13 +68,7 @@ fn currents_section(block: &Block, searched: &Searched, ceiling: &Drawn) -> Stri
 }
 
 fn envelope_section(block: &Block, ceiling: &Drawn) -> String {
-    let picture = svg::draw(&Picture {
-        title: &format!("Envelope of {}", block.name),
-        caption: &format!("No pattern drops more than {} nV.", grouped(ceiling.drop)),
-        contacts: &block.contacts(),
-        ceiling: Some(&ceiling.sheet),
-        simulated: None,
-    });
+    let picture = svg::draw(&Picture::of_envelope(block, ceiling));
     let numbers = numbers(&summary::of_envelope(ceiling));
     section("Envelope", &(numbers + &picture))
 }

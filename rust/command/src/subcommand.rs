@@ -7,79 +7,84 @@ use crate::block::Block;
 use crate::evaluation::{self, Setting};
 use crate::failure::Failure;
 use crate::given::{CommandOption, Given};
-use crate::number::grouped;
 use crate::options::*;
 use crate::pattern::Pattern;
+use crate::picture::Picture;
 use crate::sheet::Sheet;
 use crate::summary::Numbers;
-use crate::svg::{self, Picture};
-use crate::{csv, files, output, report, selftest, summary, vcd};
+use crate::{csv, files, output, report, selftest, summary, svg, vcd};
 
 /// One of the things that the command does.
 pub struct Subcommand {
     pub name: &'static str,
-    /// What stands after the name, before the options.
-    pub operands: &'static str,
+    /// What stands after the name.
+    pub usage: &'static str,
     /// What it does, in a line.
     pub summary: &'static str,
-    /// What else a user has to know.
-    pub about: &'static str,
+    /// What else a user has to know, in paragraphs.
+    pub about: &'static [&'static str],
     pub options: &'static [&'static CommandOption],
     pub run: fn(&Given) -> Result<(), Failure>,
 }
 
-/// What is said of a block operand.
+// What the help says of operands and files.
+
 const OF_BLOCKS: &str = "\
 BLOCK is a block file, or a bench text with --cells LIST: a file whose name ends
 in .bench. - is standard input, a bench text where --cells is given.";
 
+const OF_PATTERNS: &str = "\
+PATTERN is a word for each input, l, h, hl or lh, or a file of such words, as search
+--pattern writes it. In a file # begins a comment.";
+
+const OF_CELLS: &str = "\
+The cell list has a line for each kind of gate (AND, NAND, OR, NOR, XOR, XNOR, NOT,
+BUF): the kind, its contact (0 to 15), delay (1 to 63 ticks), rise and fall (1 to
+127 ticks), and the peaks in microamperes where the output rises and where it falls.
+# begins a comment. TEXT may be - for standard input.";
+
+const OF_BUILDS: &str = "\
+Two builds that print the same line give the same answers, sheets, patterns, stores
+and records on all of these calls.";
+
 pub const SUBCOMMANDS: [Subcommand; 7] = [
     Subcommand {
         name: "read",
-        operands: "BLOCK",
+        usage: "BLOCK [OPTIONS]",
         summary: "Says what a block holds.",
-        about: OF_BLOCKS,
+        about: &[OF_BLOCKS],
         options: &[&CELLS, &NETS],
         run: read,
     },
     Subcommand {
         name: "bench",
-        operands: "TEXT",
+        usage: "TEXT --cells LIST -o BLOCK",
         summary: "Turns a bench text into a block file.",
-        about: "\
-The cell list has a line for each kind of gate (AND, NAND, OR, NOR, XOR, XNOR, NOT,
-BUF): the kind, its contact (0 to 15), delay (1 to 63 ticks), rise and fall (1 to
-127 ticks), and the peaks in microamperes where the output rises and where it falls.
-# begins a comment. TEXT may be - for standard input.",
+        about: &[OF_CELLS],
         options: &[&CELLS, &BLOCK_FILE],
         run: bench,
     },
     Subcommand {
         name: "envelope",
-        operands: "BLOCK",
+        usage: "BLOCK [OPTIONS]",
         summary: "Gives a ceiling on the currents and the drop of every pattern.",
-        about: OF_BLOCKS,
+        about: &[OF_BLOCKS],
         options: &[&CELLS, &HOP_LIMIT, &TABLE, &OHMS, &SVG, &CSV, &VCD],
         run: envelope,
     },
     Subcommand {
         name: "simulate",
-        operands: "BLOCK PATTERN",
+        usage: "BLOCK PATTERN [OPTIONS]",
         summary: "Gives the currents and the drop of one pattern.",
-        about: "\
-PATTERN is a word for each input, l, h, hl or lh, or a file of such words, as search
---pattern writes it. In a file # begins a comment.
-
-BLOCK is a block file, or a bench text with --cells LIST: a file whose name ends
-in .bench. - is standard input, a bench text where --cells is given.",
+        about: &[OF_PATTERNS, OF_BLOCKS],
         options: &[&CELLS, &TABLE, &OHMS, &SVG, &CSV, &VCD],
         run: simulate,
     },
     Subcommand {
         name: "search",
-        operands: "BLOCK",
+        usage: "BLOCK [OPTIONS]",
         summary: "Tightens the ceiling, and gives the worst pattern that it found.",
-        about: OF_BLOCKS,
+        about: &[OF_BLOCKS],
         options: &[
             &CELLS, &HOP_LIMIT, &TABLE, &OHMS, &RATIO, &BUDGET, &PATTERN, &SVG, &CSV, &VCD,
         ],
@@ -87,19 +92,17 @@ in .bench. - is standard input, a bench text where --cells is given.",
     },
     Subcommand {
         name: "report",
-        operands: "BLOCK",
+        usage: "BLOCK -o FILE [OPTIONS]",
         summary: "Writes a page with the numbers, the pictures and the tables.",
-        about: OF_BLOCKS,
+        about: &[OF_BLOCKS],
         options: &[&CELLS, &HOP_LIMIT, &TABLE, &OHMS, &RATIO, &BUDGET, &PAGE],
         run: report,
     },
     Subcommand {
         name: "selftest",
-        operands: "",
+        usage: "[OPTIONS]",
         summary: "Makes the stored calls, and gives one digest of all that they answer.",
-        about: "\
-Two builds that print the same line give the same answers, sheets, patterns, stores
-and records on all of these calls.",
+        about: &[OF_BUILDS],
         options: &[&ANSWERS],
         run: selftest,
     },
@@ -162,13 +165,7 @@ fn envelope(given: &Given) -> Result<(), Failure> {
         &summary::of_envelope(&ceiling),
         &[("at most", &ceiling.sheet)],
     )?;
-    written.write(&Picture {
-        title: &format!("Envelope of {}", block.name),
-        caption: &format!("No pattern drops more than {} nV.", grouped(ceiling.drop)),
-        contacts: &block.contacts(),
-        ceiling: Some(&ceiling.sheet),
-        simulated: None,
-    })
+    written.write(&Picture::of_envelope(&block, &ceiling))
 }
 
 fn simulate(given: &Given) -> Result<(), Failure> {
@@ -189,13 +186,7 @@ fn simulate(given: &Given) -> Result<(), Failure> {
         &summary::of_simulation(&pattern, &simulated),
         &[("greatest", &simulated.sheet)],
     )?;
-    written.write(&Picture {
-        title: &format!("Simulation of {}", block.name),
-        caption: &format!("The pattern drops {} nV.", grouped(simulated.drop)),
-        contacts: &block.contacts(),
-        ceiling: None,
-        simulated: Some(&simulated.sheet),
-    })
+    written.write(&Picture::of_simulation(&block, &simulated))
 }
 
 fn search(given: &Given) -> Result<(), Failure> {
@@ -216,13 +207,7 @@ fn search(given: &Given) -> Result<(), Failure> {
     if let Some(path) = pattern {
         files::write(path, searched.pattern.file(&block))?;
     }
-    written.write(&Picture {
-        title: &format!("Search of {}", block.name),
-        caption: &summary::bounds(&searched.found),
-        contacts: &block.contacts(),
-        ceiling: Some(&searched.ceiling),
-        simulated: Some(&searched.simulated.sheet),
-    })
+    written.write(&Picture::of_search(&block, &searched))
 }
 
 fn report(given: &Given) -> Result<(), Failure> {
@@ -289,7 +274,7 @@ impl<'a> Written<'a> {
             files::write(path, csv::written(sheet))?;
         }
         if let Some(path) = self.vcd {
-            files::write(path, vcd::written(picture.contacts, &sheets))?;
+            files::write(path, vcd::written(&picture.contacts, &sheets))?;
         }
         Ok(())
     }

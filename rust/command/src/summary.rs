@@ -2,13 +2,13 @@
 
 use std::iter;
 
-use zimgurav::{Found, Outcome, Word, CONTACTS};
+use zimgurav::{Found, Outcome, CONTACTS};
 
 use crate::block::Block;
 use crate::columns::Columns;
 use crate::evaluation::{Drawn, Searched, Setting};
 use crate::excitation;
-use crate::number::{counted, grouped};
+use crate::number::{counted, grouped, microamperes};
 use crate::pattern::Pattern;
 use crate::record::KINDS;
 use crate::sheet::Sheet;
@@ -202,8 +202,4 @@ pub fn greatest_currents(block: &Block, sheets: &[(&str, &Sheet)]) -> Columns {
             .collect(),
         rows: rows.collect(),
     }
-}
-
-fn microamperes(current: Word) -> String {
-    format!("{} µA", grouped(current))
 }

@@ -9,26 +9,13 @@ mod room;
 
 use zimgurav::Word;
 
-use crate::number::grouped;
+use crate::number::microamperes;
+use crate::picture::Picture;
 use crate::sheet::{Peak, Sheet};
 use crate::svg::axis::{tick_step, Scale};
 use crate::svg::element::{dot, line, pixels, text, PIXEL};
 use crate::svg::room::shortened;
 use crate::xml::escaped;
-
-/// What a picture shows.
-pub struct Picture<'a> {
-    /// What was called on which block.
-    pub title: &'a str,
-    /// What the call answered, in a line.
-    pub caption: &'a str,
-    /// The contacts that gates are at, each of which has a row.
-    pub contacts: &'a [usize],
-    /// A ceiling on the currents of every pattern, drawn as an outline.
-    pub ceiling: Option<&'a Sheet>,
-    /// The currents of one pattern, filled.
-    pub simulated: Option<&'a Sheet>,
-}
 
 const WIDTH: u64 = 1000 * PIXEL;
 
@@ -191,7 +178,7 @@ pub fn draw(picture: &Picture) -> String {
     let simulated = |sheet| Layer::simulated(sheet, alone);
     let simulated = picture.simulated.map(simulated);
     let layers: Vec<Layer> = ceiling.into_iter().chain(simulated).collect();
-    let frame = Frame::new(picture.contacts, &layers);
+    let frame = Frame::new(&picture.contacts, &layers);
     let mut svg = opening(picture, &layers, frame.height());
     svg += &heading(picture);
     if picture.contacts.is_empty() {
@@ -200,7 +187,7 @@ pub fn draw(picture: &Picture) -> String {
     } else {
         svg += &legend(&layers);
         svg += &tick_axis(&frame, alone);
-        svg += &rows(picture.contacts, &frame, &layers);
+        svg += &rows(&picture.contacts, &frame, &layers);
     }
     svg + "</svg>\n"
 }
@@ -208,7 +195,7 @@ pub fn draw(picture: &Picture) -> String {
 /// The opening tag, what the picture says in words, and the white ground.
 fn opening(picture: &Picture, layers: &[Layer], height: u64) -> String {
     let (width, height) = (WIDTH / PIXEL, height.div_ceil(PIXEL));
-    let title = escaped(picture.title);
+    let title = escaped(&picture.title);
     let description = escaped(&description(picture, layers));
     format!(
         r##"<svg xmlns="http://www.w3.org/2000/svg" role="img" width="{width}" height="{height}" viewBox="0 0 {width} {height}" font-family="sans-serif" fill="#1a1a1a">
@@ -221,15 +208,15 @@ fn opening(picture: &Picture, layers: &[Layer], height: u64) -> String {
 
 /// The title, and the caption below it.
 fn heading(picture: &Picture) -> String {
-    let title = shortened(picture.title, TITLE_ROOM);
-    let caption = shortened(picture.caption, CAPTION_ROOM);
+    let title = shortened(&picture.title, TITLE_ROOM);
+    let caption = shortened(&picture.caption, CAPTION_ROOM);
     text(MARGIN, 32 * PIXEL, TITLE, &title) + &text(MARGIN, 53 * PIXEL, PLAIN, &caption)
 }
 
 /// The caption and the greatest currents, for a reader who cannot see the picture.
 fn description(picture: &Picture, layers: &[Layer]) -> String {
-    let mut description = picture.caption.to_string();
-    for &contact in picture.contacts {
+    let mut description = picture.caption.clone();
+    for &contact in &picture.contacts {
         let greatest = |layer: &Layer| {
             let (current, tick) = mark(layer.sheet.greatest(contact));
             format!(" {} {current} {tick}", layer.name)
@@ -372,10 +359,6 @@ fn mark(peak: Peak) -> (String, String) {
     (microamperes(peak.current), tick)
 }
 
-fn microamperes(current: Word) -> String {
-    format!("{} µA", grouped(current))
-}
-
 #[cfg(test)]
 #[path = "../tests/common/markup.rs"]
 mod markup;
@@ -420,9 +403,9 @@ mod tests {
 
     fn drawn(contacts: &[usize], ceiling: Option<&Sheet>, simulated: Option<&Sheet>) -> String {
         let svg = draw(&Picture {
-            title: "Search of a.blk",
-            caption: "U 720, L 320",
-            contacts,
+            title: "Search of a.blk".to_string(),
+            caption: "U 720, L 320".to_string(),
+            contacts: contacts.to_vec(),
             ceiling,
             simulated,
         });
@@ -604,9 +587,9 @@ mod tests {
     #[test]
     fn names_of_files_are_escaped() {
         let svg = draw(&Picture {
-            title: "Search of <b> & \"c\u{1}\".blk",
-            caption: "</desc>",
-            contacts: &[0],
+            title: "Search of <b> & \"c\u{1}\".blk".to_string(),
+            caption: "</desc>".to_string(),
+            contacts: vec![0],
             ceiling: Some(&ceiling()),
             simulated: None,
         });
