@@ -17,34 +17,20 @@ pub struct Stored {
     pub text: &'static str,
 }
 
+/// Files of stored calls, by their names.
+macro_rules! stored {
+    ($($name:literal),*) => {
+        [$(Stored {
+            name: $name,
+            text: include_str!(concat!("../stored/calls/", $name, ".txt")),
+        }),*]
+    };
+}
+
 /// The files of stored calls, in the order of their names. A program holds one copy of a static, but
 /// may hold several of a constant, and these are 4 megabytes.
-pub static STORED: [Stored; 6] = [
-    Stored {
-        name: "arguments",
-        text: include_str!("../stored/calls/arguments.txt"),
-    },
-    Stored {
-        name: "bench",
-        text: include_str!("../stored/calls/bench.txt"),
-    },
-    Stored {
-        name: "capped",
-        text: include_str!("../stored/calls/capped.txt"),
-    },
-    Stored {
-        name: "damaged",
-        text: include_str!("../stored/calls/damaged.txt"),
-    },
-    Stored {
-        name: "gappy",
-        text: include_str!("../stored/calls/gappy.txt"),
-    },
-    Stored {
-        name: "small",
-        text: include_str!("../stored/calls/small.txt"),
-    },
-];
+pub static STORED: [Stored; 6] =
+    stored!["arguments", "bench", "capped", "damaged", "gappy", "small"];
 
 /// The digest of the right answers to the stored calls.
 pub const DIGEST: &str = "abac75f1bdb3f8de";
