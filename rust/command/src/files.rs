@@ -51,9 +51,10 @@ fn bytes(source: impl Read) -> io::Result<Vec<u8>> {
 }
 
 /// The lines of a text, each with its number from 1, without comments, which begin at `#`; lines that say
-/// nothing else are left out. A byte that is no text reads as a mark of its own.
+/// nothing else are left out. The mark that some editors put before a text is none of it.
 pub fn lines(bytes: &[u8]) -> Vec<(usize, String)> {
     let text = String::from_utf8_lossy(bytes);
+    let text = text.strip_prefix('\u{feff}').unwrap_or(&text);
     let numbered = text.lines().zip(1..).map(|(line, number)| {
         let said = line.split('#').next().unwrap_or_default();
         (number, said.trim().to_string())

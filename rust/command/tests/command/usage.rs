@@ -234,3 +234,33 @@ fn operands_in_other_forms() {
     assert_eq!((ended.status, ended.output), (0, expected));
     assert!(!Path::new("-").exists());
 }
+
+/// Lists, tables and patterns may come from other systems and editors.
+#[test]
+fn texts_in_other_forms() {
+    let other = |text: &str| format!("\u{feff}{}", text.replace('\n', "\r\n").replace("  ", "\t"));
+    let [list, table, pattern] = ["other-cells.txt", "other-table.txt", "other.txt"].map(scratch);
+    fs::write(&list, other(&text("examples/cells.txt"))).expect("written");
+    fs::write(&table, other(&text("examples/table.txt"))).expect("written");
+    fs::write(&pattern, other("lh\nhl # second\n\nh\nl\nlh")).expect("written");
+    let ended = run(&[
+        "simulate",
+        "examples/c17.bench",
+        &pattern,
+        "--cells",
+        &list,
+        "--table",
+        &table,
+    ]);
+    let expected = printed(&[
+        "simulate",
+        "examples/c17.bench",
+        "lh hl h l lh",
+        "--cells",
+        "examples/cells.txt",
+        "--table",
+        "examples/table.txt",
+    ]);
+    let expected = expected.replace("examples/table.txt", &table);
+    assert_eq!((ended.status, ended.output), (0, expected));
+}
