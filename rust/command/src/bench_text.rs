@@ -5,6 +5,7 @@ use zimgurav::{refused, Refusal, BLOCK_BYTES, RECORD_BYTES};
 use crate::cells::Cells;
 use crate::failure::Failure;
 use crate::number::counted;
+use crate::progress;
 
 /// The most bytes of a line that are shown.
 const MOST_SHOWN: usize = 160;
@@ -20,8 +21,10 @@ impl BenchText<'_> {
     /// The block file that the text and the list describe.
     pub fn records(&self, cells: &Cells) -> Result<Vec<u8>, Failure> {
         let mut records = vec![0; BLOCK_BYTES];
-        let count = zimgurav::bench(self.bytes, &cells.list(), &mut records)
-            .map_err(|refusal| self.refused(refusal, cells))?;
+        let count = progress::watched("reading", || {
+            zimgurav::bench(self.bytes, &cells.list(), &mut records)
+        });
+        let count = count.map_err(|refusal| self.refused(refusal, cells))?;
         records.truncate(RECORD_BYTES * count as usize);
         Ok(records)
     }
@@ -33,13 +36,13 @@ impl BenchText<'_> {
             refused::RANGE => (&cells.name[..], Some("row"), cells.line(place).to_string()),
             refused::LINE | refused::NAME => (self.name, Some("line"), self.line(place as usize)),
             refused::INPUT | refused::ARRIVAL => {
-                let line = self.giving_lines().nth(place as usize);
-                let line = line.expect("a line gives each record");
+                let given = self.given().nth(place as usize);
+                let (line, _) = given.expect("a line gives each record");
                 (self.name, Some("net"), self.line(line))
             }
             _ => {
-                let given = counted(self.giving_lines().count() as u64, "record");
-                (self.name, None, format!("the text gives {given}"))
+                let records = counted(self.given().count() as u64, "record");
+                (self.name, None, format!("the text gives {records}"))
             }
         };
         Failure::refused(of, refusal, at, &standing)
@@ -48,6 +51,7 @@ impl BenchText<'_> {
     /// A line, or its beginning, by its number from 1.
     fn line(&self, number: usize) -> String {
         let line = self.lines().nth(number - 1).unwrap_or_default();
+        let line = line.strip_suffix(b"\r").unwrap_or(line);
         let (shown, rest) = line.split_at(line.len().min(MOST_SHOWN));
         let rest = if rest.is_empty() { "" } else { " ..." };
         format!("line {number}: {}{rest}", shown.escape_ascii())
@@ -57,32 +61,30 @@ impl BenchText<'_> {
         self.bytes.split(|byte| *byte == b'\n')
     }
 
-    /// The numbers of the lines that give a record, in a text of which no line is refused.
-    fn giving_lines(&self) -> impl Iterator<Item = usize> + '_ {
-        let lines = self.lines().map(said).zip(1..);
-        lines.filter_map(|(said, number)| given_name(&said).map(|_| number))
+    /// The lines that give a record, by their numbers, with the names that they give it, in a text of which no line is
+    /// refused.
+    fn given(&self) -> impl Iterator<Item = (usize, String)> + '_ {
+        let lines = self.lines().map(content).zip(1..);
+        lines.filter_map(|(content, number)| Some((number, given_name(&content)?.to_string())))
     }
 
     /// The names of the nets of an accepted text.
     pub fn names(&self) -> Vec<String> {
-        let lines = self.lines().map(said);
-        lines
-            .filter_map(|said| given_name(&said).map(str::to_string))
-            .collect()
+        self.given().map(|(_, name)| name).collect()
     }
 }
 
 /// What is left of a line without its comment and blanks.
-fn said(line: &[u8]) -> String {
+fn content(line: &[u8]) -> String {
     let comment = line.iter().position(|byte| *byte == b'#');
     let line = String::from_utf8_lossy(&line[..comment.unwrap_or(line.len())]);
     line.replace(['\t', '\r', ' '], "")
 }
 
 /// The name that a line gives, if it is that of an input or a gate.
-fn given_name(said: &str) -> Option<&str> {
-    match said.split_once('=') {
+fn given_name(content: &str) -> Option<&str> {
+    match content.split_once('=') {
         Some((name, _)) => Some(name),
-        None => said.strip_prefix("INPUT(")?.strip_suffix(')'),
+        None => content.strip_prefix("INPUT(")?.strip_suffix(')'),
     }
 }

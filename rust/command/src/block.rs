@@ -1,7 +1,7 @@
 //! The block that a subcommand is about.
 
 use std::ffi::OsStr;
-use std::path::Path;
+use std::os::unix::ffi::OsStrExt;
 
 use zimgurav::{refused, Counts, Refusal, CONTACTS, RECORD_BYTES};
 
@@ -19,14 +19,14 @@ pub struct Block {
     pub file: Vec<u8>,
     pub counts: Counts,
     /// The nets' names, of a bench text; else none.
-    pub names: Vec<String>,
+    names: Vec<String>,
 }
 
 impl Block {
     /// Reads a block file, or a bench text with a cell list: of a name that ends in `.bench`, or of
     /// standard input where a list is given.
     pub fn load(path: &OsStr, cells: Option<&OsStr>) -> Result<Self, Failure> {
-        let is_text = Path::new(path).extension() == Some(OsStr::new("bench"));
+        let is_text = path.as_bytes().ends_with(b".bench");
         match cells {
             Some(cells) if is_text || path == "-" => Block::of_text(path, cells),
             None if !is_text => Block::of_file(path),

@@ -3,6 +3,7 @@
 //! A text with a line for each kind of gate: the kind's word, contact, delay, rise, fall, the peak where the output
 //! rises and the peak where it falls.
 
+use std::array;
 use std::ffi::OsStr;
 
 use zimgurav::{LIST_BYTES, LIST_ROW_BYTES};
@@ -57,10 +58,8 @@ impl Cells {
     }
 
     /// The list as the library takes it.
-    pub fn list(&self) -> Vec<u8> {
-        let list: Vec<u8> = self.rows.iter().flat_map(|row| row.bytes).collect();
-        debug_assert_eq!(list.len(), LIST_BYTES);
-        list
+    pub fn list(&self) -> [u8; LIST_BYTES] {
+        array::from_fn(|at| self.rows[at / LIST_ROW_BYTES].bytes[at % LIST_ROW_BYTES])
     }
 
     /// The line that gives a row.

@@ -4,9 +4,10 @@ use zimgurav::{
     refused, store_bytes, work_bytes, Currents, Found, Refusal, MOST_BUDGET, PATTERN_BYTES,
 };
 
+use crate::arguments::Arguments;
 use crate::block::Block;
 use crate::failure::Failure;
-use crate::given::Given;
+use crate::options::{BUDGET, HOP_LIMIT, RATIO};
 use crate::pattern::Pattern;
 use crate::progress;
 use crate::sheet::Sheet;
@@ -22,12 +23,12 @@ pub struct Setting {
 
 impl Setting {
     /// The values of the options, by default those of the program `estimate`.
-    pub fn given(given: &Given) -> Result<Self, Failure> {
+    pub fn given(arguments: &Arguments) -> Result<Self, Failure> {
         Ok(Setting {
-            hop_limit: given.number("--hop-limit", 10)?,
-            ratio: given.number("--ratio", 1_000)?,
-            budget: given.number("--budget", 200)?,
-            table: Table::given(given)?,
+            hop_limit: arguments.number(&HOP_LIMIT)?,
+            ratio: arguments.number(&RATIO)?,
+            budget: arguments.number(&BUDGET)?,
+            table: Table::given(arguments)?,
         })
     }
 
@@ -114,7 +115,7 @@ pub fn search(block: &Block, setting: &Setting) -> Result<Searched, Failure> {
     let mut work = vec![0; work_bytes(block.counts.nets)];
     // A budget above the most is refused before anyone looks at the store.
     let mut store = vec![0; store_bytes(setting.budget.min(MOST_BUDGET))];
-    let found = progress::watched(|| {
+    let found = progress::watched("searching", || {
         zimgurav::search(
             &block.file,
             setting.hop_limit,

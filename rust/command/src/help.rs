@@ -16,8 +16,8 @@ usage: zimgurav SUBCOMMAND ...
 
 {lines}
 'zimgurav SUBCOMMAND --help' says more of each, 'zimgurav --version' the version.
-The exit status is 0 for an answer, 1 for a refusal, and 2 where no call was made or
-an answer could not be written.
+The exit status is 0 for an answer, 1 for a refusal, and 2 for wrong usage or a file
+that cannot be read, understood or written.
 "
     )
 }
@@ -34,7 +34,9 @@ pub fn of(subcommand: &Subcommand) -> String {
     } = subcommand;
     let options = options.iter().map(|option| {
         let written = format!("{} {}", option.name, option.value.unwrap_or_default());
-        format!("  {written:<16} {}\n", option.meaning)
+        let default = option.default.map(|value| format!(" (default {value})"));
+        let (meaning, default) = (option.meaning, default.unwrap_or_default());
+        format!("  {written:<16} {meaning}{default}\n")
     });
     let (about, options) = (about.join("\n\n"), options.collect::<String>());
     format!("usage: zimgurav {name} {usage}\n\n{summary}\n\n{about}\n\n{options}")

@@ -1,6 +1,7 @@
 //! The command `zimgurav`: blocks read, searched and drawn. Every number that it shows of currents and drops is the
 //! proved library's.
 
+mod arguments;
 mod bench_text;
 mod block;
 mod cells;
@@ -10,7 +11,6 @@ mod evaluation;
 mod excitation;
 mod failure;
 mod files;
-mod given;
 mod help;
 mod number;
 mod options;
@@ -31,17 +31,19 @@ mod xml;
 
 use std::env;
 use std::ffi::OsString;
+use std::io::{self, Write};
 use std::process::ExitCode;
 
+use crate::arguments::Arguments;
 use crate::failure::{Failure, Kind};
-use crate::given::Given;
 use crate::subcommand::{Subcommand, SUBCOMMANDS};
 
 fn main() -> ExitCode {
     match run(env::args_os().skip(1).collect()) {
         Ok(()) => ExitCode::SUCCESS,
         Err(failure) => {
-            eprintln!("zimgurav: {}", failure.message.trim_end());
+            // Where standard error takes nothing, the status still tells.
+            let _ = writeln!(io::stderr(), "zimgurav: {}", failure.message.trim_end());
             ExitCode::from(failure.status())
         }
     }
@@ -51,7 +53,7 @@ fn main() -> ExitCode {
 fn run(arguments: Vec<OsString>) -> Result<(), Failure> {
     if zimgurav::version() != zimgurav::VERSION {
         let message = "the command and the library in it are of different versions";
-        return Err(Failure::usage(message));
+        return Err(Failure::wrong(message));
     }
     let Some((name, rest)) = arguments.split_first() else {
         let message = format!("a subcommand is missing\n\n{}", help::whole());
@@ -80,11 +82,12 @@ fn is_help(argument: &OsString) -> bool {
 
 /// Runs a subcommand, or prints its help.
 fn run_subcommand(subcommand: &Subcommand, rest: &[OsString]) -> Result<(), Failure> {
-    if rest.iter().any(is_help) {
+    let mut options = rest.iter().take_while(|word| *word != "--");
+    if options.any(is_help) {
         return output::print(&help::of(subcommand));
     }
-    let given = Given::parse(rest.iter().cloned(), subcommand.options);
-    let done = given.and_then(|given| (subcommand.run)(&given));
+    let arguments = Arguments::parse(rest, subcommand.options);
+    let done = arguments.and_then(|arguments| (subcommand.run)(&arguments));
     done.map_err(|mut failure| {
         if failure.kind == Kind::Usage {
             let name = subcommand.name;

@@ -1,6 +1,7 @@
 //! A pattern: an excitation for each input, in words.
 
-use std::ffi::OsString;
+use std::ffi::{OsStr, OsString};
+use std::path::Path;
 
 use zimgurav::PATTERN_BYTES;
 
@@ -21,40 +22,41 @@ impl Pattern {
 
     /// The pattern that operands give: as words, or as a file of words.
     pub fn given(block: &Block, operands: &[OsString]) -> Result<Self, Failure> {
-        let joined = operands.join(" ".as_ref());
-        let words = joined.to_str().and_then(bytes);
-        let bytes = match (words, operands) {
-            (Some(bytes), _) => bytes,
-            (None, [path]) => {
-                let said: Vec<String> = files::lines(&files::read(path)?)
-                    .into_iter()
-                    .map(|(_, line)| line)
-                    .collect();
-                let name = files::shown(path);
-                bytes(&said.join(" "))
-                    .ok_or_else(|| Failure::file(&name, "a pattern is words l, h, hl and lh"))?
-            }
-            (None, _) => {
-                let joined = joined.display();
-                let message = format_args!("a pattern is words l, h, hl and lh, and not {joined}");
-                return Err(Failure::usage(message));
-            }
-        };
-        Pattern::of_all_inputs(block, bytes)
+        let words: Vec<&str> = operands
+            .iter()
+            .flat_map(|operand| operand.to_str().unwrap_or_default().split_whitespace())
+            .collect();
+        let bytes: Result<Vec<u8>, String> = words.into_iter().map(byte).collect();
+        match (bytes, operands) {
+            (Ok(bytes), _) => Pattern::of_all_inputs(block, bytes).map_err(Failure::usage),
+            (_, [path]) if path == "-" || Path::new(path).exists() => Pattern::load(block, path),
+            (Err(message), [_]) => Err(Failure::usage(format!("{message}, and no file"))),
+            (Err(message), _) => Err(Failure::usage(message)),
+        }
+    }
+
+    /// A pattern from a file of words.
+    fn load(block: &Block, path: &OsStr) -> Result<Self, Failure> {
+        let name = files::shown(path);
+        let mut bytes = Vec::new();
+        for (number, line) in files::lines(&files::read(path)?) {
+            let of_line: Result<Vec<u8>, String> = line.split_whitespace().map(byte).collect();
+            let of_line = of_line
+                .map_err(|message| Failure::file(&name, format!("line {number}: {message}")))?;
+            bytes.extend(of_line);
+        }
+        Pattern::of_all_inputs(block, bytes).map_err(|message| Failure::file(&name, message))
     }
 
     /// A pattern has a word for each input.
-    fn of_all_inputs(block: &Block, bytes: Vec<u8>) -> Result<Self, Failure> {
-        let inputs = block.counts.inputs as usize;
-        if bytes.len() == inputs {
+    fn of_all_inputs(block: &Block, bytes: Vec<u8>) -> Result<Self, String> {
+        let inputs = block.counts.inputs;
+        if bytes.len() as u64 == inputs {
             return Ok(Pattern(bytes));
         }
         let words = counted(bytes.len() as u64, "word");
-        let inputs = counted(inputs as u64, "input");
-        Err(Failure::usage(format_args!(
-            "the pattern has {words}, and {} has {inputs}",
-            block.name
-        )))
+        let (name, inputs) = (&block.name, counted(inputs, "input"));
+        Err(format!("the pattern has {words}, and {name} has {inputs}"))
     }
 
     /// The bytes as the library takes them.
@@ -82,7 +84,7 @@ impl Pattern {
     }
 }
 
-/// The bytes that words stand for, where all of them are excitations.
-fn bytes(words: &str) -> Option<Vec<u8>> {
-    words.split_whitespace().map(excitation::byte).collect()
+/// The byte that a word stands for.
+fn byte(word: &str) -> Result<u8, String> {
+    excitation::byte(word).ok_or_else(|| format!("{word} is not l, h, hl or lh"))
 }

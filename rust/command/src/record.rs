@@ -1,9 +1,10 @@
 //! A record of a block file in words, right or wrong.
 
 use zimgurav::kind::{AND, BUF, INPUT};
-use zimgurav::RECORD_BYTES;
+use zimgurav::{Word, RECORD_BYTES};
 
 use crate::excitation;
+use crate::number::microamperes;
 
 /// The words of the gates' kinds, from AND on.
 pub const KINDS: [&str; 8] = ["AND", "NAND", "OR", "NOR", "XOR", "XNOR", "NOT", "BUF"];
@@ -68,14 +69,12 @@ impl Record<'_> {
             2..=4 => format!("of nets {}", pins.join(", ")),
             count => format!("of {count} pins"),
         };
+        let (contact, delay) = (self.contact(), self.delay());
+        let (rise, fall) = (self.0[12], self.0[13]);
+        let [peak_lh, peak_hl] = [14, 16].map(|at| microamperes(self.two_bytes(at) as Word));
         format!(
-            "{kind} {of}; contact {}; delay {}, rise {}, fall {} ticks; peaks {} µA lh, {} µA hl",
-            self.contact(),
-            self.delay(),
-            self.0[12],
-            self.0[13],
-            self.two_bytes(14),
-            self.two_bytes(16),
+            "{kind} {of}; contact {contact}; delay {delay}, rise {rise}, fall {fall} ticks; \
+             peaks {peak_lh} lh, {peak_hl} hl"
         )
     }
 

@@ -9,9 +9,9 @@ pub struct Sheet {
     pub quiet: u64,
 }
 
-/// A current of a row, and when it flows.
+/// The greatest current of a contact, and the first tick at which it flows.
 #[derive(Clone, Copy, Debug, PartialEq, Eq)]
-pub struct Peak {
+pub struct Greatest {
     /// In microamperes.
     pub current: Word,
     pub tick: usize,
@@ -32,15 +32,14 @@ impl Sheet {
         &self.words[ROW_TICKS * contact..][..ROW_TICKS]
     }
 
-    /// The greatest current of a contact, and the first tick at which it flows.
-    pub fn greatest(&self, contact: usize) -> Peak {
-        let mut greatest = Peak {
+    pub fn greatest(&self, contact: usize) -> Greatest {
+        let mut greatest = Greatest {
             current: 0,
             tick: 0,
         };
         for (tick, &current) in self.row(contact).iter().enumerate() {
             if current > greatest.current {
-                greatest = Peak { current, tick };
+                greatest = Greatest { current, tick };
             }
         }
         greatest

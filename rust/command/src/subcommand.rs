@@ -1,12 +1,12 @@
 //! The subcommands: what each takes, and what it does.
 
-use std::ffi::OsStr;
+use std::ffi::{OsStr, OsString};
 use std::path::Path;
 
+use crate::arguments::{Arguments, CommandOption};
 use crate::block::Block;
 use crate::evaluation::{self, Setting};
 use crate::failure::Failure;
-use crate::given::{CommandOption, Given};
 use crate::options::*;
 use crate::pattern::Pattern;
 use crate::picture::Picture;
@@ -24,14 +24,14 @@ pub struct Subcommand {
     /// What else a user has to know, in paragraphs.
     pub about: &'static [&'static str],
     pub options: &'static [&'static CommandOption],
-    pub run: fn(&Given) -> Result<(), Failure>,
+    pub run: fn(&Arguments) -> Result<(), Failure>,
 }
 
 // What the help says of operands and files.
 
 const OF_BLOCKS: &str = "\
 BLOCK is a block file, or a bench text with --cells LIST: a file whose name ends
-in .bench. - is standard input, a bench text where --cells is given.";
+in .bench. - is standard input, a bench text where --cells is arguments.";
 
 const OF_PATTERNS: &str = "\
 PATTERN is a word for each input, l, h, hl or lh, or a file of such words, as search
@@ -108,15 +108,30 @@ pub const SUBCOMMANDS: [Subcommand; 7] = [
     },
 ];
 
+/// The first operand, and those after it.
+fn operands(arguments: &Arguments) -> Result<(&OsStr, &[OsString]), Failure> {
+    let operands = arguments.operands.split_first();
+    let (first, rest) = operands.ok_or_else(|| Failure::usage("an operand is missing"))?;
+    Ok((first, rest))
+}
+
 /// The one operand that a subcommand takes.
-fn operand(given: &Given) -> Result<&OsStr, Failure> {
-    match &given.operands[..] {
-        [operand] => Ok(operand),
-        [] => Err(Failure::usage("an operand is missing")),
-        [_, extra, ..] => Err(Failure::usage(format_args!(
-            "{} is an operand too many",
-            extra.display()
-        ))),
+fn operand(arguments: &Arguments) -> Result<&OsStr, Failure> {
+    let (operand, rest) = operands(arguments)?;
+    no_more(rest)?;
+    Ok(operand)
+}
+
+/// There are no operands but those that a subcommand takes.
+fn no_more(rest: &[OsString]) -> Result<(), Failure> {
+    match rest {
+        [] => Ok(()),
+        [extra, ..] => {
+            let extra = extra.display();
+            Err(Failure::usage(format_args!(
+                "{extra} is an operand too many"
+            )))
+        }
     }
 }
 
@@ -127,37 +142,37 @@ fn missing(option: &CommandOption) -> Failure {
 }
 
 /// The file that an option which may not be left out names for the command to write.
-fn written_file<'a>(given: &'a Given, option: &CommandOption) -> Result<&'a Path, Failure> {
-    let path = given.written_file(option.name)?;
+fn written_file<'a>(arguments: &'a Arguments, option: &CommandOption) -> Result<&'a Path, Failure> {
+    let path = arguments.written_file(option)?;
     path.ok_or_else(|| missing(option))
 }
 
-fn block(given: &Given, path: &OsStr) -> Result<Block, Failure> {
-    Block::load(path, given.value(CELLS.name))
+fn block(arguments: &Arguments, path: &OsStr) -> Result<Block, Failure> {
+    Block::load(path, arguments.value(CELLS.name))
 }
 
-fn read(given: &Given) -> Result<(), Failure> {
-    let block = block(given, operand(given)?)?;
+fn read(arguments: &Arguments) -> Result<(), Failure> {
+    let block = block(arguments, operand(arguments)?)?;
     let mut text = format!("{}\n", block.name);
     text += &summary::lines(&summary::of_block(&block));
-    if given.has(NETS.name) {
+    if arguments.has(NETS.name) {
         text += &format!("\n{}\n", summary::nets(&block).join("\n"));
     }
     output::print(&text)
 }
 
-fn bench(given: &Given) -> Result<(), Failure> {
-    let cells = given.value(CELLS.name).ok_or_else(|| missing(&CELLS))?;
-    let path = written_file(given, &BLOCK_FILE)?;
-    let block = Block::of_text(operand(given)?, cells)?;
+fn bench(arguments: &Arguments) -> Result<(), Failure> {
+    let cells = arguments.value(CELLS.name).ok_or_else(|| missing(&CELLS))?;
+    let path = written_file(arguments, &BLOCK_FILE)?;
+    let block = Block::of_text(operand(arguments)?, cells)?;
     files::write(path, &block.file)?;
     output::print(&format!("{}: {}\n", block.name, block.size()))
 }
 
-fn envelope(given: &Given) -> Result<(), Failure> {
-    let written = Written::given(given)?;
-    let setting = Setting::given(given)?;
-    let block = block(given, operand(given)?)?;
+fn envelope(arguments: &Arguments) -> Result<(), Failure> {
+    let written = Written::given(arguments)?;
+    let setting = Setting::given(arguments)?;
+    let block = block(arguments, operand(arguments)?)?;
     let ceiling = evaluation::envelope(&block, &setting)?;
     print_answer(
         &block,
@@ -168,16 +183,14 @@ fn envelope(given: &Given) -> Result<(), Failure> {
     written.write(&Picture::of_envelope(&block, &ceiling))
 }
 
-fn simulate(given: &Given) -> Result<(), Failure> {
-    let written = Written::given(given)?;
-    let setting = Setting::given(given)?;
-    let [path, pattern @ ..] = &given.operands[..] else {
-        return Err(Failure::usage("an operand is missing"));
-    };
+fn simulate(arguments: &Arguments) -> Result<(), Failure> {
+    let written = Written::given(arguments)?;
+    let setting = Setting::given(arguments)?;
+    let (path, pattern) = operands(arguments)?;
     if pattern.is_empty() {
         return Err(Failure::usage("the pattern is missing"));
     }
-    let block = block(given, path)?;
+    let block = block(arguments, path)?;
     let pattern = Pattern::given(&block, pattern)?;
     let simulated = evaluation::simulate(&block, &setting, &pattern)?;
     print_answer(
@@ -189,11 +202,11 @@ fn simulate(given: &Given) -> Result<(), Failure> {
     written.write(&Picture::of_simulation(&block, &simulated))
 }
 
-fn search(given: &Given) -> Result<(), Failure> {
-    let written = Written::given(given)?;
-    let pattern = given.written_file(PATTERN.name)?;
-    let setting = Setting::given(given)?;
-    let block = block(given, operand(given)?)?;
+fn search(arguments: &Arguments) -> Result<(), Failure> {
+    let written = Written::given(arguments)?;
+    let pattern = arguments.written_file(&PATTERN)?;
+    let setting = Setting::given(arguments)?;
+    let block = block(arguments, operand(arguments)?)?;
     let searched = evaluation::search(&block, &setting)?;
     print_answer(
         &block,
@@ -210,10 +223,10 @@ fn search(given: &Given) -> Result<(), Failure> {
     written.write(&Picture::of_search(&block, &searched))
 }
 
-fn report(given: &Given) -> Result<(), Failure> {
-    let path = written_file(given, &PAGE)?;
-    let setting = Setting::given(given)?;
-    let block = block(given, operand(given)?)?;
+fn report(arguments: &Arguments) -> Result<(), Failure> {
+    let path = written_file(arguments, &PAGE)?;
+    let setting = Setting::given(arguments)?;
+    let block = block(arguments, operand(arguments)?)?;
     let ceiling = evaluation::envelope(&block, &setting)?;
     let searched = evaluation::search(&block, &setting)?;
     let page = report::page(&block, &setting, &searched, &ceiling);
@@ -222,12 +235,9 @@ fn report(given: &Given) -> Result<(), Failure> {
     output::print(&format!("{name}: {bounds}\n"))
 }
 
-fn selftest(given: &Given) -> Result<(), Failure> {
-    if let [extra, ..] = &given.operands[..] {
-        let message = format_args!("{} is an operand too many", extra.display());
-        return Err(Failure::usage(message));
-    }
-    selftest::run(given.written_file(ANSWERS.name)?)
+fn selftest(arguments: &Arguments) -> Result<(), Failure> {
+    no_more(&arguments.operands)?;
+    selftest::run(arguments.written_file(&ANSWERS)?)
 }
 
 /// Prints what was called on which block, what it answered, and the greatest currents of its sheets.
@@ -252,11 +262,11 @@ struct Written<'a> {
 }
 
 impl<'a> Written<'a> {
-    fn given(given: &'a Given) -> Result<Self, Failure> {
+    fn given(arguments: &'a Arguments) -> Result<Self, Failure> {
         Ok(Written {
-            svg: given.written_file(SVG.name)?,
-            csv: given.written_file(CSV.name)?,
-            vcd: given.written_file(VCD.name)?,
+            svg: arguments.written_file(&SVG)?,
+            csv: arguments.written_file(&CSV)?,
+            vcd: arguments.written_file(&VCD)?,
         })
     }
 

@@ -32,11 +32,10 @@ pub fn of_block(block: &Block) -> Numbers {
         .map(|(kind, count)| format!("{} {kind}", grouped(count as u64)))
         .collect();
     let contacts: Vec<String> = block.contacts().iter().map(usize::to_string).collect();
-    let contacts = format!(
-        "{} of {CONTACTS} used: {}",
-        contacts.len(),
-        contacts.join(", ")
-    );
+    let contacts = match contacts.len() {
+        0 => format!("none of {CONTACTS} used"),
+        count => format!("{count} of {CONTACTS} used: {}", contacts.join(", ")),
+    };
     let arrivals = block.arrivals();
     let of_gates = &arrivals[block.counts.inputs as usize..];
     let arrivals = match (of_gates.iter().min(), of_gates.iter().max()) {
@@ -162,7 +161,11 @@ fn outcome(found: &Found, setting: &Setting) -> String {
         ),
         Outcome::Spent => {
             let splits = counted(setting.budget, "split");
-            format!("spent: the budget of {splits} was used up before U and L met")
+            let near = match setting.ratio {
+                1_000 => "U and L met".to_string(),
+                ratio => format!("U was at most {} times L", thousandths(ratio)),
+            };
+            format!("spent: the budget of {splits} was used up before {near}")
         }
     }
 }
@@ -188,10 +191,10 @@ fn thousandths(number: u64) -> String {
 pub fn greatest_currents(block: &Block, sheets: &[(&str, &Sheet)]) -> Columns {
     let headings = sheets.iter().flat_map(|(name, _)| [*name, "at tick"]);
     let rows = block.contacts().into_iter().map(|contact| {
-        let peaks = sheets.iter().map(|(_, sheet)| sheet.greatest(contact));
-        let words = peaks.flat_map(|peak| match peak.current {
+        let greatest = sheets.iter().map(|(_, sheet)| sheet.greatest(contact));
+        let words = greatest.flat_map(|greatest| match greatest.current {
             0 => [microamperes(0), "-".to_string()],
-            current => [microamperes(current), peak.tick.to_string()],
+            current => [microamperes(current), greatest.tick.to_string()],
         });
         iter::once(contact.to_string()).chain(words).collect()
     });

@@ -11,7 +11,7 @@ use zimgurav::Word;
 
 use crate::number::microamperes;
 use crate::picture::Picture;
-use crate::sheet::{Peak, Sheet};
+use crate::sheet::{Greatest, Sheet};
 use crate::svg::axis::{tick_step, Scale};
 use crate::svg::element::{dot, line, pixels, text, PIXEL};
 use crate::svg::room::shortened;
@@ -109,7 +109,7 @@ impl<'a> Layer<'a> {
 }
 
 /// Where ticks and currents are in a picture.
-struct Frame {
+struct Plot {
     /// The last tick at which current flows.
     quiet: u64,
     scale: Scale,
@@ -120,16 +120,16 @@ struct Frame {
     pitch: u64,
 }
 
-impl Frame {
+impl Plot {
     fn new(contacts: &[usize], layers: &[Layer]) -> Self {
-        let peaks = contacts.iter().flat_map(|&contact| {
+        let currents = contacts.iter().flat_map(|&contact| {
             let greatest = move |layer: &Layer| layer.sheet.greatest(contact).current;
             layers.iter().map(greatest)
         });
-        let greatest = peaks.max().unwrap_or(0);
+        let greatest = currents.max().unwrap_or(0);
         let quiet = layers.iter().map(|layer| layer.sheet.quiet).max();
         let rows = contacts.len() as u64;
-        Frame {
+        Plot {
             quiet: quiet.unwrap_or(0),
             scale: Scale::reaching(greatest),
             currents_end: MARKS_CURRENTS
@@ -157,7 +157,7 @@ impl Frame {
         self.bottom(row) - (self.pitch - GAP) / 2
     }
 
-    /// Where a current is. It is at most 17 thousand million, so that its product with a height has no
+    /// Where a current is. It is below 18 thousand million, so that its product with a height has no
     /// more than 64 bits.
     fn y(&self, row: u64, current: Word) -> u64 {
         self.bottom(row) - (self.pitch - GAP) * current / self.scale.top()
@@ -178,16 +178,16 @@ pub fn draw(picture: &Picture) -> String {
     let simulated = |sheet| Layer::simulated(sheet, alone);
     let simulated = picture.simulated.map(simulated);
     let layers: Vec<Layer> = ceiling.into_iter().chain(simulated).collect();
-    let frame = Frame::new(&picture.contacts, &layers);
-    let mut svg = opening(picture, &layers, frame.height());
+    let plot = Plot::new(&picture.contacts, &layers);
+    let mut svg = opening(picture, &layers, plot.height());
     svg += &heading(picture);
     if picture.contacts.is_empty() {
         let words = "The block has no gates: no contact draws current.";
         svg += &text(MARGIN, 84 * PIXEL, PLAIN, words);
     } else {
         svg += &legend(&layers);
-        svg += &tick_axis(&frame, alone);
-        svg += &rows(&picture.contacts, &frame, &layers);
+        svg += &tick_axis(&plot, alone);
+        svg += &rows(&picture.contacts, &plot, &layers);
     }
     svg + "</svg>\n"
 }
@@ -243,17 +243,17 @@ fn legend(layers: &[Layer]) -> String {
 }
 
 /// The labels of the ticks under the last row, and a line through all rows for each.
-fn tick_axis(frame: &Frame, alone: bool) -> String {
-    let bottom = frame.bottom(frame.rows - 1);
+fn tick_axis(plot: &Plot, alone: bool) -> String {
+    let bottom = plot.bottom(plot.rows - 1);
     let mut axis = text(
         LEFT - 22 * PIXEL,
         bottom + 18 * PIXEL,
         SMALL_LEFTWARD,
         "tick",
     );
-    let step = tick_step(frame.end());
-    for tick in (0..=frame.end()).step_by(step as usize) {
-        let x = frame.x(tick);
+    let step = tick_step(plot.end());
+    for tick in (0..=plot.end()).step_by(step as usize) {
+        let x = plot.x(tick);
         axis += &line((x, TOP), (x, bottom + 5 * PIXEL), GRID);
         axis += &text(x, bottom + 18 * PIXEL, SMALL_CENTRED, &tick.to_string());
     }
@@ -261,7 +261,7 @@ fn tick_axis(frame: &Frame, alone: bool) -> String {
         true => "The pattern draws no current",
         false => "No pattern draws current",
     };
-    let words = match frame.quiet {
+    let words = match plot.quiet {
         0 => format!("{who}."),
         quiet => format!("{who} after tick {quiet}."),
     };
@@ -269,7 +269,7 @@ fn tick_axis(frame: &Frame, alone: bool) -> String {
 }
 
 /// The rows, and above them what the numbers beside them are.
-fn rows(contacts: &[usize], frame: &Frame, layers: &[Layer]) -> String {
+fn rows(contacts: &[usize], plot: &Plot, layers: &[Layer]) -> String {
     let mut rows = text(
         MARKS - 5 * PIXEL,
         TOP - 12 * PIXEL,
@@ -278,21 +278,21 @@ fn rows(contacts: &[usize], frame: &Frame, layers: &[Layer]) -> String {
     );
     for (row, &contact) in (0..).zip(contacts) {
         let name = format!("contact {contact}");
-        rows += &text(MARGIN, frame.middle(row) + HALF_LINE, CONTACT, &name);
-        rows += &current_axis(frame, row);
-        rows += &areas(frame, row, contact, layers);
-        rows += &marks(frame, row, contact, layers);
+        rows += &text(MARGIN, plot.middle(row) + HALF_LINE, CONTACT, &name);
+        rows += &current_axis(plot, row);
+        rows += &areas(plot, row, contact, layers);
+        rows += &marks(plot, row, contact, layers);
     }
     rows
 }
 
 /// The labels of the currents at the left of a row, and a line across it for each step.
-fn current_axis(frame: &Frame, row: u64) -> String {
-    let scale = &frame.scale;
-    let labelled = (frame.pitch - GAP) / scale.steps >= LABEL_HEIGHT;
+fn current_axis(plot: &Plot, row: u64) -> String {
+    let scale = &plot.scale;
+    let labelled = (plot.pitch - GAP) / scale.steps >= LABEL_HEIGHT;
     let mut axis = String::new();
     for step in (0..=scale.steps).rev() {
-        let y = frame.y(row, step * scale.step);
+        let y = plot.y(row, step * scale.step);
         let kind = if step == 0 { BASE } else { GRID };
         axis += &line((LEFT, y), (LEFT + PLOT_WIDTH, y), kind);
         if labelled || step == 0 || step == scale.steps {
@@ -304,25 +304,25 @@ fn current_axis(frame: &Frame, row: u64) -> String {
 }
 
 /// The currents of a contact, the ceiling behind the simulated ones.
-fn areas(frame: &Frame, row: u64, contact: usize, layers: &[Layer]) -> String {
+fn areas(plot: &Plot, row: u64, contact: usize, layers: &[Layer]) -> String {
     let area = |layer: &Layer| {
-        let path = area(frame, row, layer.sheet.row(contact));
+        let path = area(plot, row, layer.sheet.row(contact));
         format!("<path d=\"{path}\" {}/>\n", layer.area)
     };
     layers.iter().map(area).collect()
 }
 
 /// The path over the currents of a row, from the tick before each stretch of them to the tick after.
-fn area(frame: &Frame, row: u64, currents: &[Word]) -> String {
+fn area(plot: &Plot, row: u64, currents: &[Word]) -> String {
     let mut path = String::new();
     let mut before = 0;
-    for (tick, &current) in (0..=frame.end()).zip(currents) {
+    for (tick, &current) in (0..=plot.end()).zip(currents) {
         if before == 0 && current > 0 {
-            let start = frame.x(tick.saturating_sub(1));
-            path += &format!("M{} {}", pixels(start), pixels(frame.bottom(row)));
+            let start = plot.x(tick.saturating_sub(1));
+            path += &format!("M{} {}", pixels(start), pixels(plot.bottom(row)));
         }
         if before > 0 || current > 0 {
-            let (x, y) = (frame.x(tick), frame.y(row, current));
+            let (x, y) = (plot.x(tick), plot.y(row, current));
             path += &format!("L{} {}", pixels(x), pixels(y));
         }
         before = current;
@@ -331,32 +331,32 @@ fn area(frame: &Frame, row: u64, currents: &[Word]) -> String {
 }
 
 /// A dot at the greatest current of each sheet, and its number beside the row.
-fn marks(frame: &Frame, row: u64, contact: usize, layers: &[Layer]) -> String {
-    let first = frame.middle(row) + 9 * PIXEL - 9 * PIXEL * layers.len() as u64;
+fn marks(plot: &Plot, row: u64, contact: usize, layers: &[Layer]) -> String {
+    let first = plot.middle(row) + 9 * PIXEL - 9 * PIXEL * layers.len() as u64;
     let mut marks = String::new();
     for (at, layer) in (0..).zip(layers) {
-        let peak = layer.sheet.greatest(contact);
-        if peak.current > 0 {
-            let (x, y) = (frame.x(peak.tick as u64), frame.y(row, peak.current));
+        let greatest = layer.sheet.greatest(contact);
+        if greatest.current > 0 {
+            let (x, y) = (plot.x(greatest.tick as u64), plot.y(row, greatest.current));
             marks += &dot(x, y, layer.dot);
         }
         let y = first + 18 * PIXEL * at;
-        let (current, tick) = mark(peak);
+        let (current, tick) = mark(greatest);
         marks += &dot(MARKS, y, layer.dot);
         marks += &text(MARKS + 10 * PIXEL, y + HALF_LINE, PLAIN, layer.name);
-        marks += &text(frame.currents_end, y + HALF_LINE, LEFTWARD, &current);
-        marks += &text(frame.currents_end + 4 * PIXEL, y + HALF_LINE, PLAIN, &tick);
+        marks += &text(plot.currents_end, y + HALF_LINE, LEFTWARD, &current);
+        marks += &text(plot.currents_end + 4 * PIXEL, y + HALF_LINE, PLAIN, &tick);
     }
     marks
 }
 
 /// A greatest current in words: how much, and when.
-fn mark(peak: Peak) -> (String, String) {
-    let tick = match peak.current {
+fn mark(greatest: Greatest) -> (String, String) {
+    let tick = match greatest.current {
         0 => "at all ticks".to_string(),
-        _ => format!("at tick {}", peak.tick),
+        _ => format!("at tick {}", greatest.tick),
     };
-    (microamperes(peak.current), tick)
+    (microamperes(greatest.current), tick)
 }
 
 #[cfg(test)]
@@ -537,9 +537,9 @@ mod tests {
     #[test]
     fn stretches_of_current_are_apart() {
         let currents = sheet(5, &[(0, 0, 4), (0, 4, 2), (0, 5, 4)]);
-        let frame = Frame::new(&[0], &[Layer::ceiling(&currents)]);
+        let plot = Plot::new(&[0], &[Layer::ceiling(&currents)]);
         assert_eq!(
-            area(&frame, 0, currents.row(0)),
+            area(&plot, 0, currents.row(0)),
             "M164.0 342.0L164.0 120.0L255.0 342.0M437.0 342.0L528.0 231.0L619.0 120.0L710.0 342.0"
         );
     }
@@ -574,14 +574,14 @@ mod tests {
         let points = points(&svg);
         // A point for each tick, one to start from and one after the quiet tick.
         assert_eq!(points.len(), 2 * CONTACTS * (GREATEST_QUIET as usize + 3));
-        let frame = Frame::new(&contacts, &[Layer::ceiling(&largest)]);
-        let bottom = frame.bottom(15);
+        let plot = Plot::new(&contacts, &[Layer::ceiling(&largest)]);
+        let bottom = plot.bottom(15);
         for (x, y) in points {
             assert!((LEFT..=LEFT + PLOT_WIDTH).contains(&x), "{x}");
             assert!((TOP..=bottom).contains(&y), "{y}");
         }
         // The words `at tick 507` take 70 pixels of a broad font.
-        assert!(frame.currents_end + 74 * PIXEL <= WIDTH);
+        assert!(plot.currents_end + 74 * PIXEL <= WIDTH);
     }
 
     #[test]

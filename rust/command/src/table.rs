@@ -4,10 +4,11 @@ use std::ffi::OsStr;
 
 use zimgurav::CONTACTS;
 
+use crate::arguments::Arguments;
 use crate::failure::Failure;
 use crate::files;
-use crate::given::Given;
 use crate::number::{counted, grouped};
+use crate::options::{OHMS, TABLE};
 
 /// The resistances of the bus nodes, and where they come from.
 pub struct Table {
@@ -18,25 +19,30 @@ pub struct Table {
 }
 
 impl Table {
-    /// The table that the options give: a file's, else one node, by default of 1 milliohm to each contact.
-    pub fn given(given: &Given) -> Result<Self, Failure> {
-        match (given.value("--table"), given.value("--ohms")) {
+    /// The table that the options give: a file's, else one node.
+    pub fn given(arguments: &Arguments) -> Result<Self, Failure> {
+        match (arguments.value(TABLE.name), arguments.value(OHMS.name)) {
             (Some(path), None) => Table::load(path),
-            (None, None) => Ok(Table::of_one_node(1)),
-            (None, Some(ohms)) => {
-                let milliohms = ohms.to_str().and_then(milliohms);
-                milliohms.map(Table::of_one_node).ok_or_else(|| {
-                    let given = ohms.display();
-                    Failure::usage(format_args!(
-                        "--ohms takes 0 to 65.535 with three decimals at most, and not {given}"
-                    ))
-                })
+            (None, ohms) => {
+                let default = OHMS.default.unwrap_or_default();
+                Table::of_ohms(ohms.unwrap_or(default.as_ref()))
             }
             (Some(_), Some(_)) => {
                 let message = "a table is either of a file, --table, or of one node, --ohms";
                 Err(Failure::usage(message))
             }
         }
+    }
+
+    /// One node with so many ohms to each contact.
+    fn of_ohms(ohms: &OsStr) -> Result<Self, Failure> {
+        let milliohms = ohms.to_str().and_then(milliohms);
+        milliohms.map(Table::of_one_node).ok_or_else(|| {
+            let ohms = ohms.display();
+            Failure::usage(format_args!(
+                "--ohms takes 0 to 65.535 with three decimals at most, and not {ohms}"
+            ))
+        })
     }
 
     /// One node with this resistance to each contact.

@@ -102,7 +102,7 @@ mod tests {
             (640, 200, 4),
             (1_000, 200, 5),
             (1_001, 500, 3),
-            (17_094_737_160, 5_000_000_000, 4),
+            (17_095_787_775, 5_000_000_000, 4),
         ] {
             let scale = Scale { step, steps };
             assert_eq!(Scale::reaching(current), scale, "{current} µA");
@@ -128,7 +128,7 @@ mod tests {
             (123_456, ["0", "150 mA"]),
             (60_000_001, ["0", "80,000 mA"]),
             (99_999_999, ["0", "100 A"]),
-            (17_094_737_160, ["0", "20,000 A"]),
+            (17_095_787_775, ["0", "20,000 A"]),
         ] {
             let scale = Scale::reaching(current);
             let shown = [scale.label(0), scale.label(scale.steps)];

@@ -8,7 +8,7 @@ use zimgurav::{
     SHEET_WORDS,
 };
 
-use crate::run::{file, printed, scratch};
+use crate::run::{file, lone_input, printed, scratch};
 
 const BLOCK: &str = "examples/adder24.blk";
 
@@ -67,7 +67,7 @@ fn comma_separated_values_are_the_sheet() {
     }
 }
 
-/// The greatest words that a sheet can hold come back too.
+/// Currents above 16 bits come back too.
 #[test]
 fn great_currents() {
     let block = file("examples/block_s.blk");
@@ -156,11 +156,6 @@ fn value_change_dumps_are_the_sheets() {
 #[test]
 fn c17_is_its_block() {
     const NAND: [u8; 20] = [3, 1, 1, 2, 0, 0, 0, 0, 0, 0, 0, 0, 1, 2, 60, 0, 50, 0, 0, 0];
-    let input: [u8; 20] = std::array::from_fn(|at| match at {
-        0 => 1,
-        18 => 15,
-        _ => 0,
-    });
     let gates = [[0, 2], [2, 3], [1, 6], [6, 4], [5, 7], [7, 8]].map(|[first, second]| {
         let mut gate = NAND;
         (gate[4], gate[6]) = (first, second);
@@ -172,7 +167,7 @@ fn c17_is_its_block() {
     let block = fs::read(path).expect("the block");
     assert_eq!(
         block,
-        [input; 5]
+        [lone_input(); 5]
             .into_iter()
             .chain(gates)
             .collect::<Vec<_>>()

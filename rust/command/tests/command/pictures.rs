@@ -4,7 +4,7 @@ use std::collections::BTreeSet;
 use std::fs;
 
 use crate::markup::well_formed;
-use crate::run::{printed, root, run_on, scratch, text};
+use crate::run::{lone_input, printed, root, run_on, scratch, text};
 
 /// The blocks of the examples, as operands.
 const BLOCKS: [&[&str]; 4] = [
@@ -69,18 +69,13 @@ fn pages_stand_alone() {
 /// A block without gates has a picture and a page too.
 #[test]
 fn without_gates() {
-    let input: [u8; 20] = std::array::from_fn(|at| match at {
-        0 => 1,
-        18 => 15,
-        _ => 0,
-    });
     let path = scratch("no-gates.html");
-    let ended = run_on(&input, &["report", "-", "-o", &path]);
+    let ended = run_on(&lone_input(), &["report", "-", "-o", &path]);
     assert_eq!((ended.status, &ended.error[..]), (0, ""));
     let page = fs::read_to_string(path).expect("the page");
     stands_alone(&page, "a page without gates");
     assert!(page.contains("The block has no gates"));
-    let ended = run_on(&input, &["search", "-"]);
+    let ended = run_on(&lone_input(), &["search", "-"]);
     assert!(ended
         .output
         .ends_with("pattern      lh\n\ncontact   at most   at tick   pattern   at tick\n"));
@@ -116,8 +111,54 @@ fn a_page_has_the_numbers() {
             assert!(page.contains(&row), "{row}");
         }
     }
-    let tick = "<tr><td>1</td><td>260</td><td>280</td>";
-    assert!(page.contains(tick), "the first tick of the sheet");
+}
+
+/// The tables of a page have the words that the subcommands print.
+#[test]
+fn a_page_has_the_tables() {
+    let (block, pattern) = ("examples/adder24.blk", scratch("pattern.txt"));
+    let page = written(&["report", block, "-o"], "tables.html");
+    let searched = printed(&["search", block, "--pattern", &pattern]);
+    let enveloped = printed(&["envelope", block]);
+    let envelopes: Vec<Vec<&str>> = rows_of_contacts(&enveloped).collect();
+    let greatest = rows_of_contacts(&searched)
+        .zip(envelopes)
+        .map(|(row, envelope)| {
+            let words = [row, envelope[1..].to_vec()].concat();
+            let cells: Vec<String> = words
+                .iter()
+                .map(|word| format!("<td>{word}</td>"))
+                .collect();
+            cells.concat()
+        });
+    let greatest: Vec<String> = greatest.collect();
+    assert_eq!(greatest.len(), 12);
+    let pattern = fs::read_to_string(pattern).expect("the pattern");
+    let inputs = pattern.lines().filter_map(|line| {
+        let (word, net) = line.split_once(" # ")?;
+        Some(format!("<td>{net}</td><td>{}</td>", word.trim()))
+    });
+    let ticks = [
+        "<td>1</td><td>260</td><td>280</td>",
+        "<td>51</td><td>0</td><td>0</td>",
+    ];
+    let ticks = ticks.map(str::to_string);
+    for row in greatest.into_iter().chain(inputs).chain(ticks) {
+        assert!(page.contains(&format!("<tr>{row}")), "{row}");
+    }
+    assert!(!page.contains("<td>52</td><td>0</td>"));
+}
+
+/// The words of the lines that a subcommand prints of contacts, without those of the headings.
+fn rows_of_contacts(printed: &str) -> impl Iterator<Item = Vec<&str>> {
+    let (_, lines) = printed.split_once("\ncontact ").expect("the headings");
+    let rows = lines.lines().skip(1);
+    rows.map(|line| {
+        line.split("  ")
+            .map(str::trim)
+            .filter(|word| !word.is_empty())
+            .collect()
+    })
 }
 
 /// The pictures of the documents are those that the commands beside them draw, and no others.

@@ -180,11 +180,12 @@ mod of_a_file {
     /// Every subcommand that takes a block reads it first.
     #[test]
     fn by_every_subcommand() {
+        let page = scratch("refused.html");
         for rest in [
             &["envelope"][..],
             &["simulate", "lh", "lh"],
             &["search"],
-            &["report", "-o", &scratch("refused.html")],
+            &["report", "-o", &page],
         ] {
             let mut arguments = rest.to_vec();
             arguments.insert(1, "-");
@@ -192,7 +193,7 @@ mod of_a_file {
             assert!(ended.error.contains("refused 8 at net 3:"), "{ended:?}");
             assert_eq!((ended.status, &ended.output[..]), (1, ""), "{rest:?}");
         }
-        assert!(!Path::new(&scratch("refused.html")).exists());
+        assert!(!Path::new(&page).exists());
     }
 }
 

@@ -4,6 +4,7 @@ use std::fs;
 use std::io::Write;
 use std::path::{Path, PathBuf};
 use std::process::{Command, Stdio};
+use std::sync::atomic::{AtomicUsize, Ordering};
 
 /// What the command left.
 #[derive(Debug, PartialEq, Eq)]
@@ -28,17 +29,36 @@ pub fn text(path: &str) -> String {
     String::from_utf8(file(path)).expect("text")
 }
 
-/// A file for a test to write, with a name of its own.
+/// A file for a test to write, which is not there yet and which no other test has.
 pub fn scratch(name: &str) -> String {
-    let path = Path::new(env!("CARGO_TARGET_TMPDIR")).join(name);
+    static FILES: AtomicUsize = AtomicUsize::new(0);
+    let number = FILES.fetch_add(1, Ordering::Relaxed);
+    let path = Path::new(env!("CARGO_TARGET_TMPDIR")).join(format!("{number}-{name}"));
+    // Of an earlier run.
+    let _ = fs::remove_file(&path);
+    assert!(!path.exists(), "{}", path.display());
     path.to_str().expect("a path that is text").to_string()
+}
+
+/// A block of one input and no gates.
+pub fn lone_input() -> [u8; 20] {
+    std::array::from_fn(|at| match at {
+        0 => 1,
+        18 => 15,
+        _ => 0,
+    })
+}
+
+/// The command with these arguments, to be run in the repository's root.
+pub fn command(arguments: &[&str]) -> Command {
+    let mut command = Command::new(env!("CARGO_BIN_EXE_zimgurav"));
+    command.args(arguments).current_dir(root());
+    command
 }
 
 /// Runs the command with these arguments and this standard input.
 pub fn run_on(input: &[u8], arguments: &[&str]) -> Ended {
-    let mut child = Command::new(env!("CARGO_BIN_EXE_zimgurav"))
-        .args(arguments)
-        .current_dir(root())
+    let mut child = command(arguments)
         .stdin(Stdio::piped())
         .stdout(Stdio::piped())
         .stderr(Stdio::piped())

@@ -2,7 +2,7 @@
 
 use std::fs;
 
-use crate::run::{printed, root, scratch, text};
+use crate::run::{printed, scratch, text};
 
 /// The line that two builds are compared by.
 #[test]
@@ -20,6 +20,6 @@ fn writes_the_stored_answers() {
         .iter()
         .map(|file| text(&format!("rust/calls/stored/answers/{}.txt", file.name)))
         .collect();
-    let written = fs::read_to_string(root().join(path)).expect("the answers");
+    let written = fs::read_to_string(path).expect("the answers");
     assert!(written == stored, "the answers differ from those stored");
 }

@@ -1,9 +1,9 @@
 //! Wrong usage: a message on standard error, status 2, nothing on standard output.
 
-use std::fs;
+use std::fs::{self, File};
 use std::path::Path;
 
-use crate::run::{file, printed, run, run_on, scratch, text, Ended};
+use crate::run::{command, file, printed, root, run, run_on, scratch, text, Ended};
 
 /// The command says just this on standard error.
 #[track_caller]
@@ -52,16 +52,16 @@ fn operands() {
 fn options() {
     misused(&["read", BLOCK, "--svg", "x"], "there is no option --svg");
     misused(&["read", BLOCK, "-x"], "there is no option -x");
-    misused(
-        &["search", BLOCK, "--svg"],
-        "--svg takes a value: --svg FILE",
-    );
+    for empty in [&["--svg"][..], &["--svg="], &["--svg", ""]] {
+        let arguments = [&["search", BLOCK], empty].concat();
+        misused(&arguments, "--svg takes a value: --svg FILE");
+    }
     misused(&["read", BLOCK, "--nets=1"], "--nets takes no value");
     misused(
         &["search", BLOCK, "--budget", "1", "--budget=2"],
         "--budget is given twice",
     );
-    for number in ["ten", "-1", "", "1.5", "18446744073709551616"] {
+    for number in ["ten", "-1", "1.5", "18446744073709551616"] {
         misused(
             &["search", BLOCK, "--budget", number],
             &format!("--budget takes a number, and {number} is none"),
@@ -73,6 +73,7 @@ fn options() {
             &format!("{option} takes the name of a file; - is standard input"),
         );
     }
+    assert!(!root().join("-").exists());
     misused(&["report", BLOCK], "-o FILE is missing");
     let text = "examples/c17.bench";
     misused(&["bench", text, "-o", "x"], "--cells LIST is missing");
@@ -207,18 +208,24 @@ fn patterns() {
         &["simulate", BLOCK, "lh"],
         "the pattern has 1 word, and examples/block_f.blk has 2 inputs",
     );
-    misused(
-        &["simulate", BLOCK, "lh", "LH"],
-        "a pattern is words l, h, hl and lh, and not lh LH",
-    );
-    wrong(
-        &["simulate", BLOCK, "nowhere.txt"],
-        "nowhere.txt: No such file or directory (os error 2)",
-    );
-    wrong(
-        &["simulate", BLOCK, "README.md"],
-        "README.md: a pattern is words l, h, hl and lh",
-    );
+    misused(&["simulate", BLOCK, "lh", "LH"], "LH is not l, h, hl or lh");
+    for operand in ["LH", "lh LH"] {
+        misused(
+            &["simulate", BLOCK, operand],
+            "LH is not l, h, hl or lh, and no file",
+        );
+    }
+    let path = scratch("a pattern.txt");
+    for (pattern, message) in [
+        ("# x\nlh\nlh up\n", "line 3: up is not l, h, hl or lh"),
+        (
+            "lh",
+            "the pattern has 1 word, and examples/block_f.blk has 2 inputs",
+        ),
+    ] {
+        fs::write(&path, pattern).expect("written");
+        wrong(&["simulate", BLOCK, &path], &format!("{path}: {message}"));
+    }
 }
 
 /// Words in one operand, and a pattern or a block on standard input, are as good as others.
@@ -232,7 +239,96 @@ fn operands_in_other_forms() {
     let ended = run_on(&block, &["search", "-"]);
     let expected = printed(&["search", BLOCK]).replace(BLOCK, "standard input");
     assert_eq!((ended.status, ended.output), (0, expected));
-    assert!(!Path::new("-").exists());
+}
+
+/// Words after `--` are operands.
+#[test]
+fn operands_that_look_like_options() {
+    for word in ["-h", "--help", "--nets"] {
+        let message = format!("{word}: No such file or directory (os error 2)");
+        wrong(&["read", "--", word], &message);
+    }
+}
+
+/// No file is written that is also read, or written twice.
+#[test]
+fn files_given_twice() {
+    let path = scratch("twice");
+    misused(
+        &["search", BLOCK, "--svg", &path, "--csv", &path],
+        &format!("--svg would write {path}, which is given for something else too"),
+    );
+    let list = "examples/cells.txt";
+    for written in ["examples/c17.bench", list] {
+        misused(
+            &[
+                "bench",
+                "examples/c17.bench",
+                "--cells",
+                list,
+                "-o",
+                written,
+            ],
+            &format!("-o would write {written}, which is given for something else too"),
+        );
+    }
+    assert!(!Path::new(&path).exists());
+}
+
+/// A reader that has closed its end is no failure; an output that takes nothing is, and a standard error that takes
+/// nothing leaves the status.
+#[test]
+fn outputs_that_take_nothing() {
+    let (reader, writer) = std::io::pipe().expect("a pipe");
+    drop(reader);
+    let ended = command(&["search", BLOCK]).stdout(writer).output();
+    let ended = ended.expect("the command starts");
+    assert_eq!(
+        (ended.status.code(), &ended.stderr[..]),
+        (Some(0), &b""[..])
+    );
+    let full = || {
+        File::options()
+            .write(true)
+            .open("/dev/full")
+            .expect("a full device")
+    };
+    let ended = command(&["search", BLOCK]).stdout(full()).output();
+    let ended = ended.expect("the command starts");
+    let message = "zimgurav: standard output: No space left on device (os error 28)\n";
+    assert_eq!(
+        (ended.status.code(), &ended.stderr[..]),
+        (Some(2), message.as_bytes())
+    );
+    let ended = command(&["read", "nowhere"]).stderr(full()).output();
+    assert_eq!(ended.expect("the command starts").status.code(), Some(2));
+}
+
+/// A long search shows that it goes on, but not into a pipe.
+#[test]
+fn no_progress_into_a_pipe() {
+    let adder = ["search", "examples/adder24.blk", "--budget", "10000"];
+    assert!(printed(&adder).contains("\nsplits       10,000\n"));
+}
+
+/// The names of a text's nets, without comments and blanks.
+#[test]
+fn names_of_nets() {
+    let text = b"INPUT(a) # x=y\r\n# q = NOT(a)\nO U\tT = NOT(a)\r\nOUTPUT(OUT)\nINPUT = BUF(a)";
+    let ended = run_on(
+        text,
+        &["read", "-", "--cells", "examples/cells.txt", "--nets"],
+    );
+    let nets: Vec<&str> = ended
+        .output
+        .lines()
+        .filter(|line| line.starts_with("net "))
+        .collect();
+    let nets: Vec<&str> = nets
+        .iter()
+        .filter_map(|line| line.split(':').next())
+        .collect();
+    assert_eq!(nets, ["net 0 \"a\"", "net 1 \"OUT\"", "net 2 \"INPUT\""]);
 }
 
 /// Lists, tables and patterns may come from other systems and editors.
