@@ -40,11 +40,6 @@ pub fn lines() -> impl Iterator<Item = &'static str> {
     STORED.iter().flat_map(|file| file.text.lines())
 }
 
-/// How many calls are stored.
-pub fn count() -> usize {
-    lines().count()
-}
-
 /// The digest of answers: the 64-bit FNV-1a hash, 16 hexadecimal digits, of their lines, each with a
 /// newline after it.
 pub fn digest(answers: impl IntoIterator<Item = impl AsRef<str>>) -> String {

@@ -62,7 +62,7 @@ fn no_line_is_left_out() {
         let lines = [file.text, &right_answers(file)].map(|text| text.lines().count());
         assert_eq!(lines, [operations.len() * times; 2], "lines of {name}");
     }
-    assert_eq!(calls::count(), 1_925);
+    assert_eq!(calls::lines().count(), 1_925);
 }
 
 #[test]

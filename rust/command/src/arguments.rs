@@ -1,10 +1,12 @@
 //! What stands after the name of a subcommand: operands and options.
 
 use std::ffi::{OsStr, OsString};
+use std::fs;
 use std::os::unix::ffi::OsStrExt;
 use std::path::Path;
 
 use crate::failure::Failure;
+use crate::number::grouped;
 
 /// An option that a subcommand takes.
 pub struct CommandOption {
@@ -35,13 +37,23 @@ impl Arguments {
         while let Some(word) = words.next() {
             if word == "--" {
                 arguments.operands.extend(words.by_ref());
-            } else if word == "-" || !word.as_bytes().starts_with(b"-") {
-                arguments.operands.push(word);
-            } else {
+            } else if is_option(&word) {
                 arguments.take_option(&word, &mut words, options)?;
+            } else {
+                arguments.operands.push(word);
             }
         }
+        if arguments.named().filter(|word| *word == "-").count() > 1 {
+            let message = "standard input is given for more than one file";
+            return Err(Failure::usage(message));
+        }
         Ok(arguments)
+    }
+
+    /// All operands and all values of options.
+    fn named(&self) -> impl Iterator<Item = &OsString> {
+        let values = self.options.iter().map(|(_, value)| value);
+        self.operands.iter().chain(values)
     }
 
     /// Takes an option, and its value from the same word, after `=`, or from the next one.
@@ -64,7 +76,8 @@ impl Arguments {
             (None, None) => OsString::new(),
             (None, Some(_)) => return Err(Failure::usage(format_args!("{name} takes no value"))),
             (Some(what), value) => {
-                let value = value.map(OsStr::to_os_string).or_else(|| rest.next());
+                let next = || rest.next().filter(|word| !is_option(word));
+                let value = value.map(OsStr::to_os_string).or_else(next);
                 value.filter(|value| !value.is_empty()).ok_or_else(|| {
                     let message = format_args!("{name} takes a value: {name} {what}");
                     Failure::usage(message)
@@ -98,15 +111,19 @@ impl Arguments {
                 "{name} takes the name of a file; - is standard input"
             )));
         }
-        let others = self.options.iter().filter(|(other, _)| *other != name);
-        let mut named = others.map(|(_, value)| value).chain(&self.operands);
-        if named.any(|other| other == path) {
-            let path = path.display();
+        let (path, shown) = (Path::new(path), path.display());
+        let same = self.named().filter(|other| is_same(path, Path::new(other)));
+        if same.count() > 1 {
             return Err(Failure::usage(format_args!(
-                "{name} would write {path}, which is given for something else too"
+                "{name} would write {shown}, which is given for something else too"
             )));
         }
-        Ok(Some(Path::new(path)))
+        let folder = path.parent().unwrap_or(path);
+        if !folder.as_os_str().is_empty() && !folder.is_dir() {
+            let message = format_args!("there is no folder {}", folder.display());
+            return Err(Failure::file(&shown.to_string(), message));
+        }
+        Ok(Some(path))
     }
 
     /// The number that an option has, given or by default.
@@ -116,10 +133,22 @@ impl Arguments {
         let number = value.to_str().and_then(|digits| digits.parse().ok());
         number.ok_or_else(|| {
             let (name, value) = (option.name, value.display());
-            let message = format_args!("{name} takes a number, and {value} is none");
+            let most = grouped(u64::MAX);
+            let message = format_args!("{name} takes a whole number, 0 to {most}, and not {value}");
             Failure::usage(message)
         })
     }
+}
+
+/// Whether a word is an option; `-` alone is standard input.
+fn is_option(word: &OsStr) -> bool {
+    word != "-" && word.as_bytes().starts_with(b"-")
+}
+
+/// Whether two paths are of one file.
+fn is_same(path: &Path, other: &Path) -> bool {
+    let canonical = |path: &Path| fs::canonicalize(path).ok();
+    path == other || canonical(path).is_some_and(|path| canonical(other) == Some(path))
 }
 
 /// What stands before the first `=`, and what stands after it.

@@ -5,10 +5,7 @@ use zimgurav::{refused, Refusal, BLOCK_BYTES, RECORD_BYTES};
 use crate::cells::Cells;
 use crate::failure::Failure;
 use crate::number::counted;
-use crate::progress;
-
-/// The most bytes of a line that are shown.
-const MOST_SHOWN: usize = 160;
+use crate::{output, progress};
 
 /// A bench text, by its lines.
 pub struct BenchText<'a> {
@@ -34,7 +31,8 @@ impl BenchText<'_> {
         let place = refusal.place;
         let (of, at, standing) = match refusal.number {
             refused::RANGE => (&cells.name[..], Some("row"), cells.line(place).to_string()),
-            refused::LINE | refused::NAME => (self.name, Some("line"), self.line(place as usize)),
+            refused::LINE => (self.name, Some("line"), self.line(place as usize)),
+            refused::NAME => (self.name, Some("line"), self.line_of_name(place as usize)),
             refused::INPUT | refused::ARRIVAL => {
                 let given = self.given().nth(place as usize);
                 let (line, _) = given.expect("a line gives each record");
@@ -52,9 +50,31 @@ impl BenchText<'_> {
     fn line(&self, number: usize) -> String {
         let line = self.lines().nth(number - 1).unwrap_or_default();
         let line = line.strip_suffix(b"\r").unwrap_or(line);
-        let (shown, rest) = line.split_at(line.len().min(MOST_SHOWN));
-        let rest = if rest.is_empty() { "" } else { " ..." };
-        format!("line {number}: {}{rest}", shown.escape_ascii())
+        let shown = output::shortened(&line.escape_ascii().to_string());
+        format!("line {number}: {shown}")
+    }
+
+    /// A line that is refused for a name, and which name that is.
+    fn line_of_name(&self, number: usize) -> String {
+        let line = self.lines().nth(number - 1).unwrap_or_default();
+        let content = content(line);
+        let earlier: Vec<(usize, String)> = self
+            .given()
+            .take_while(|(line, _)| *line < number)
+            .collect();
+        let known = |name: &str| earlier.iter().find(|(_, given)| given == name);
+        let (_, pins) = content.split_once('=').unwrap_or_default();
+        let pins = pins.split(['(', ',', ')']).skip(1);
+        let unknown = pins
+            .filter(|pin| !pin.is_empty())
+            .find(|pin| known(pin).is_none());
+        let again = given_name(&content).and_then(known);
+        let fault = match (unknown, again) {
+            (Some(pin), _) => format!("\nno earlier line gives {pin}"),
+            (None, Some((first, name))) => format!("\nline {first} gives {name} already"),
+            (None, None) => String::new(),
+        };
+        self.line(number) + &fault
     }
 
     fn lines(&self) -> impl Iterator<Item = &[u8]> {

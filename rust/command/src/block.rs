@@ -26,7 +26,7 @@ impl Block {
     /// Reads a block file, or a bench text with a cell list: of a name that ends in `.bench`, or of
     /// standard input where a list is given.
     pub fn load(path: &OsStr, cells: Option<&OsStr>) -> Result<Self, Failure> {
-        let is_text = path.as_bytes().ends_with(b".bench");
+        let is_text = ends_in_bench(path);
         match cells {
             Some(cells) if is_text || path == "-" => Block::of_text(path, cells),
             None if !is_text => Block::of_file(path),
@@ -94,28 +94,28 @@ impl Block {
         (0..CONTACTS).filter(at).collect()
     }
 
-    /// The arrival of each net: 0 for an input, and for a gate the greatest of its pins plus its delay.
     pub fn arrivals(&self) -> Vec<u64> {
-        let mut arrivals = Vec::new();
-        for record in self.records() {
-            let latest = record.pins().iter().map(|pin| arrivals[*pin]).max();
-            arrivals.push(latest.unwrap_or(0) + u64::from(record.delay()));
-        }
-        arrivals
+        arrivals(self.records())
     }
 
     /// A net by its number and, of a bench text, its name.
     pub fn net(&self, net: usize) -> String {
+        format!("net {}", self.numbered(net))
+    }
+
+    fn numbered(&self, net: usize) -> String {
         match self.names.get(net) {
-            Some(name) => format!("net {net} \"{name}\""),
-            None => format!("net {net}"),
+            Some(name) => format!("{net} \"{name}\""),
+            None => net.to_string(),
         }
     }
 
     /// The record of a net in words.
     pub fn net_in_words(&self, net: usize) -> String {
         let record = self.records().nth(net);
-        let words = record.map_or(String::new(), |record| record.words());
+        let words = record.map_or(String::new(), |record| {
+            record.words(|pin| self.numbered(pin))
+        });
         format!("{}: {words}", self.net(net))
     }
 
@@ -129,28 +129,61 @@ impl Block {
     }
 }
 
+/// Whether a file is a bench text, by its name.
+fn ends_in_bench(path: &OsStr) -> bool {
+    let name = path.as_bytes().to_ascii_lowercase();
+    name.ends_with(b".bench")
+}
+
+/// The arrival of each net: 0 for an input, and for a gate the greatest of its pins plus its delay.
+fn arrivals<'a>(records: impl Iterator<Item = Record<'a>>) -> Vec<u64> {
+    let mut arrivals = Vec::new();
+    for record in records {
+        let latest = record.pins().iter().map(|pin| arrivals[*pin]).max();
+        arrivals.push(latest.unwrap_or(0) + u64::from(record.delay()));
+    }
+    arrivals
+}
+
 /// The refusal of a file, with what stands at its place.
 fn unread(name: &str, file: &[u8], refusal: Refusal) -> Failure {
-    let length = file.len();
-    let (at, net) = match refusal.number {
-        refused::KIND..=refused::ARRIVAL => (Some("net"), refusal.place as usize),
-        _ => (None, 0),
+    let place = match refusal.number {
+        refused::KIND..=refused::ARRIVAL => Some("net"),
+        _ => None,
     };
-    let standing = match (refusal.number, records(file).nth(net)) {
-        (refused::LENGTH, _) => {
-            let records = counted((length / RECORD_BYTES) as u64, "record");
-            let rest = counted((length % RECORD_BYTES) as u64, "byte");
+    let mut standing = match refusal.number {
+        refused::LENGTH => {
+            let records = counted((file.len() / RECORD_BYTES) as u64, "record");
+            let rest = counted((file.len() % RECORD_BYTES) as u64, "byte");
             format!("the file has {records} and {rest} more")
         }
-        (refused::RECORDS, _) => {
-            let records = counted((length / RECORD_BYTES) as u64, "record");
+        refused::RECORDS => {
+            let records = counted((file.len() / RECORD_BYTES) as u64, "record");
             format!("the file has {records}")
         }
-        (_, Some(record)) => {
-            let (words, bytes) = (record.words(), record.bytes());
-            format!("net {net}: {words}\nits bytes: {bytes}")
-        }
-        (_, None) => "the file is empty".to_string(),
+        _ => standing_at(file, refusal),
     };
-    Failure::refused(name, refusal, at, &standing)
+    let in_text = |byte: &u8| byte.is_ascii_graphic() || byte.is_ascii_whitespace();
+    if !file.is_empty() && file.iter().all(in_text) {
+        standing += "\nit is a text: a bench text has a name that ends in .bench, and --cells LIST";
+    }
+    Failure::refused(name, refusal, place, &standing)
+}
+
+/// The record of the net that a refusal is about, else the first one.
+fn standing_at(file: &[u8], refusal: Refusal) -> String {
+    let net = refusal.place as usize;
+    let Some(record) = records(file).nth(net) else {
+        return "the file is empty".to_string();
+    };
+    let (words, bytes) = (record.words(|pin| pin.to_string()), record.bytes());
+    let arrival = match refusal.number {
+        refused::ARRIVAL => {
+            // The records before it are right, so that each pin has an arrival.
+            let arrivals = arrivals(records(file).take(net + 1));
+            format!("; arrives at tick {}", arrivals[net])
+        }
+        _ => String::new(),
+    };
+    format!("net {net}: {words}{arrival}\nits bytes: {bytes}")
 }

@@ -10,16 +10,31 @@ use zimgurav::{LIST_BYTES, LIST_ROW_BYTES};
 
 use crate::failure::Failure;
 use crate::files;
+use crate::output;
 use crate::record::KINDS;
 
-/// What the fields of a line are after its kind, and the most that a row of the list has room for.
-const FIELDS: [(&str, u16); 6] = [
-    ("contact", u8::MAX as u16),
-    ("delay", u8::MAX as u16),
-    ("rise", u8::MAX as u16),
-    ("fall", u8::MAX as u16),
-    ("peak lh", u16::MAX),
-    ("peak hl", u16::MAX),
+/// A field of a line after its kind.
+struct Field {
+    name: &'static str,
+    /// The numbers that the library takes.
+    range: &'static str,
+    /// The most that a row of the list has room for.
+    room: u16,
+}
+
+impl Field {
+    const fn new(name: &'static str, range: &'static str, room: u16) -> Self {
+        Field { name, range, room }
+    }
+}
+
+const FIELDS: [Field; 6] = [
+    Field::new("contact", "0 to 15", u8::MAX as u16),
+    Field::new("delay", "1 to 63", u8::MAX as u16),
+    Field::new("rise", "1 to 127", u8::MAX as u16),
+    Field::new("fall", "1 to 127", u8::MAX as u16),
+    Field::new("peak lh", "0 to 65535", u16::MAX),
+    Field::new("peak hl", "0 to 65535", u16::MAX),
 ];
 
 /// A row of the list, and the line that gives it.
@@ -42,10 +57,10 @@ impl Cells {
         let wrong = |message: String| Failure::file(&name, message);
         let mut rows: [Option<Row>; KINDS.len()] = Default::default();
         for (number, line) in files::lines(&files::read(path)?) {
-            let at = |message: String| wrong(format!("line {number}: {message}: {line}"));
-            let (kind, bytes) = row(&line).map_err(at)?;
-            let line = format!("line {number}: {line}");
-            if rows[kind].replace(Row { bytes, line }).is_some() {
+            let shown = format!("line {number}: {}", output::shortened(&line));
+            let (kind, bytes) =
+                row(&line).map_err(|message| wrong(format!("{message}\n{shown}")))?;
+            if rows[kind].replace(Row { bytes, line: shown }).is_some() {
                 let message = format!("line {number} gives {} a second time", KINDS[kind]);
                 return Err(wrong(message));
             }
@@ -78,9 +93,10 @@ fn row(line: &str) -> Result<(usize, [u8; LIST_ROW_BYTES]), String> {
         return Err("a kind has contact, delay, rise, fall, peak lh and peak hl".to_string());
     }
     let mut numbers = [0; FIELDS.len()];
-    for ((number, word), (name, most)) in numbers.iter_mut().zip(fields).zip(FIELDS) {
-        let read = word.parse().ok().filter(|number| *number <= most);
-        *number = read.ok_or_else(|| format!("{name} {word} is no number from 0 to {most}"))?;
+    for ((number, word), field) in numbers.iter_mut().zip(fields).zip(FIELDS) {
+        let Field { name, range, room } = field;
+        let read = word.parse().ok().filter(|number| *number <= room);
+        *number = read.ok_or_else(|| format!("{name} {word} is not {range}"))?;
     }
     let [contact, delay, rise, fall, peak_lh, peak_hl] = numbers.map(u16::to_le_bytes);
     let bytes = [

@@ -7,6 +7,7 @@ use zimgurav::{
 use crate::arguments::Arguments;
 use crate::block::Block;
 use crate::failure::Failure;
+use crate::number::grouped;
 use crate::options::{BUDGET, HOP_LIMIT, RATIO};
 use crate::pattern::Pattern;
 use crate::progress;
@@ -37,8 +38,8 @@ impl Setting {
         let standing = match refusal.number {
             refused::HOP_LIMIT => format!("the hop limit is {}", self.hop_limit),
             refused::TABLE => format!("the table is {}", self.table.words),
-            refused::RATIO => format!("the ratio is {}", self.ratio),
-            refused::BUDGET => format!("the budget is {}", self.budget),
+            refused::RATIO => format!("the ratio is {}", grouped(self.ratio)),
+            refused::BUDGET => format!("the budget is {}", grouped(self.budget)),
             _ => String::new(),
         };
         Failure::refused(&block.name, refusal, None, &standing)

@@ -32,9 +32,10 @@ impl Failure {
             format!(" at {name} {}", refusal.place)
         });
         let meaning = refused::meaning(number).unwrap_or("no such refusal is known");
-        let standing = standing.replace('\n', "\n  ");
+        let rule = rule(number).map_or(String::new(), |rule| format!("\n{rule}"));
+        let message = format!("{of}: refused {number}{place}: {meaning}\n{standing}{rule}");
         Failure {
-            message: format!("{of}: refused {number}{place}: {meaning}\n  {standing}"),
+            message: indented(&message),
             kind: Kind::Refused,
         }
     }
@@ -49,7 +50,7 @@ impl Failure {
     /// What is wrong with a file, by its name.
     pub fn file(name: &str, message: impl Display) -> Self {
         Failure {
-            message: format!("{name}: {message}"),
+            message: indented(&format!("{name}: {message}")),
             kind: Kind::File,
         }
     }
@@ -67,5 +68,25 @@ impl Failure {
             Kind::Refused | Kind::Wrong => 1,
             Kind::Usage | Kind::File => 2,
         }
+    }
+}
+
+/// A message of which all lines but the first are indented.
+fn indented(message: &str) -> String {
+    message.replace('\n', "\n  ")
+}
+
+/// The rule that a record or a line breaks, where the meaning of the refusal does not say it.
+fn rule(number: u64) -> Option<&'static str> {
+    match number {
+        refused::PIN_COUNT => Some("a NOT or BUF has 1 pin, any other gate 2 to 4"),
+        refused::RANGE => Some(
+            "a contact is 0 to 15, a delay 1 to 63, rise and fall are 1 to 127, an input's set is 1 to 15",
+        ),
+        refused::LINE => Some(
+            "the forms are INPUT(name), OUTPUT(name) and name = KIND(name, ...), \
+             and a name is 1 to 16 letters or digits",
+        ),
+        _ => None,
     }
 }

@@ -4,9 +4,9 @@ use std::ffi::OsStr;
 use std::fs::{self, File};
 use std::io::{self, Read};
 use std::path::Path;
-use std::sync::atomic::{AtomicBool, Ordering};
 
 use crate::failure::Failure;
+use crate::output;
 
 /// The most bytes of a file that is read: far more than any block or list has, and any bench text that a person
 /// or a tool would write, and few enough that a wrong name does not fill the memory.
@@ -17,22 +17,16 @@ pub fn shown(path: &OsStr) -> String {
     if path == "-" {
         "standard input".to_string()
     } else {
-        path.display().to_string()
+        output::printable(&path.to_string_lossy())
     }
 }
 
-/// Whether standard input was read.
-static INPUT_READ: AtomicBool = AtomicBool::new(false);
-
-/// The bytes of a file; `-` is standard input, which can be read once.
+/// The bytes of a file; `-` is standard input.
 pub fn read(path: &OsStr) -> Result<Vec<u8>, Failure> {
-    let read = if path != "-" {
-        File::open(path).and_then(bytes)
-    } else if INPUT_READ.swap(true, Ordering::Relaxed) {
-        let message = "standard input is given for more than one file";
-        return Err(Failure::usage(message));
-    } else {
+    let read = if path == "-" {
         bytes(io::stdin().lock())
+    } else {
+        File::open(path).and_then(bytes)
     };
     let name = shown(path);
     let bytes = read.map_err(|error| Failure::file(&name, error))?;

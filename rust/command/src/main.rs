@@ -43,7 +43,8 @@ fn main() -> ExitCode {
         Ok(()) => ExitCode::SUCCESS,
         Err(failure) => {
             // Where standard error takes nothing, the status still tells.
-            let _ = writeln!(io::stderr(), "zimgurav: {}", failure.message.trim_end());
+            let message = output::printable(failure.message.trim_end());
+            let _ = writeln!(io::stderr(), "zimgurav: {message}");
             ExitCode::from(failure.status())
         }
     }
@@ -59,7 +60,7 @@ fn run(arguments: Vec<OsString>) -> Result<(), Failure> {
         let message = format!("a subcommand is missing\n\n{}", help::whole());
         return Err(Failure::usage(message));
     };
-    if is_help(name) {
+    if is_help(name) || name == "help" {
         return output::print(&help::whole());
     }
     if name == "--version" {

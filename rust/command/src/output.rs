@@ -4,6 +4,27 @@ use std::io::{self, ErrorKind, Write};
 
 use crate::failure::Failure;
 
+/// The most characters of a line or a word of a file that are shown.
+const MOST_SHOWN: usize = 160;
+
+/// A text without the characters that a terminal takes for orders.
+pub fn printable(text: &str) -> String {
+    let printable = |character: char| match character {
+        '\n' => character,
+        _ if character.is_control() => char::REPLACEMENT_CHARACTER,
+        _ => character,
+    };
+    text.chars().map(printable).collect()
+}
+
+/// A line or a word of a file, or its beginning where it is long.
+pub fn shortened(text: &str) -> String {
+    match text.char_indices().nth(MOST_SHOWN) {
+        Some((end, _)) => format!("{} ...", &text[..end]),
+        None => text.to_string(),
+    }
+}
+
 /// Prints a text. A reader that has seen enough and closed its end is no failure.
 pub fn print(text: &str) -> Result<(), Failure> {
     let mut output = io::stdout().lock();

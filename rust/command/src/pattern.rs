@@ -10,6 +10,7 @@ use crate::excitation;
 use crate::failure::Failure;
 use crate::files;
 use crate::number::counted;
+use crate::output;
 
 /// The bytes of the inputs.
 pub struct Pattern(Vec<u8>);
@@ -86,5 +87,6 @@ impl Pattern {
 
 /// The byte that a word stands for.
 fn byte(word: &str) -> Result<u8, String> {
-    excitation::byte(word).ok_or_else(|| format!("{word} is not l, h, hl or lh"))
+    let word = output::shortened(word);
+    excitation::byte(&word).ok_or_else(|| format!("{word} is not l, h, hl or lh"))
 }

@@ -1,7 +1,9 @@
 //! What a picture shows.
 
+use zimgurav::Word;
+
 use crate::block::Block;
-use crate::evaluation::{Drawn, Searched};
+use crate::evaluation::{Drawn, Searched, Setting};
 use crate::number::grouped;
 use crate::sheet::Sheet;
 use crate::summary;
@@ -12,43 +14,63 @@ pub struct Picture<'a> {
     pub title: String,
     /// What the call answered, in a line.
     pub caption: String,
+    /// The values that the call was made with.
+    pub setting: String,
     /// The contacts that gates are at.
     pub contacts: Vec<usize>,
     /// A ceiling on the currents of every pattern.
     pub ceiling: Option<&'a Sheet>,
     /// The currents of one pattern.
     pub simulated: Option<&'a Sheet>,
+    /// A current that the scale reaches, even if none that is shown does.
+    pub reaching: Word,
 }
 
 impl<'a> Picture<'a> {
-    pub fn of_envelope(block: &Block, ceiling: &'a Drawn) -> Self {
+    pub fn of_envelope(block: &Block, setting: &Setting, ceiling: &'a Drawn) -> Self {
         Picture {
             title: format!("Envelope of {}", block.name),
             caption: format!("No pattern drops more than {} nV.", grouped(ceiling.drop)),
+            setting: summary::envelope_setting(setting),
             contacts: block.contacts(),
             ceiling: Some(&ceiling.sheet),
             simulated: None,
+            reaching: 0,
         }
     }
 
-    pub fn of_simulation(block: &Block, simulated: &'a Drawn) -> Self {
+    pub fn of_simulation(block: &Block, setting: &Setting, simulated: &'a Drawn) -> Self {
         Picture {
             title: format!("Simulation of {}", block.name),
             caption: format!("The pattern drops {} nV.", grouped(simulated.drop)),
+            setting: setting.table.words.clone(),
             contacts: block.contacts(),
             ceiling: None,
             simulated: Some(&simulated.sheet),
+            reaching: 0,
         }
     }
 
     /// The sheet of a search, and inside it the currents of the pattern that it handed over.
-    pub fn of_search(block: &Block, searched: &'a Searched) -> Self {
+    pub fn of_search(block: &Block, setting: &Setting, searched: &'a Searched) -> Self {
         Picture {
             title: format!("Search of {}", block.name),
             caption: summary::bounds(&searched.found),
+            setting: summary::search_setting(setting),
             contacts: block.contacts(),
             ceiling: Some(&searched.ceiling),
             simulated: Some(&searched.simulated.sheet),
+            reaching: 0,
         }
+    }
+
+    /// The greatest current that is shown.
+    pub fn greatest(&self) -> Word {
+        let sheets = self.ceiling.into_iter().chain(self.simulated);
+        let rows = sheets.flat_map(|sheet| {
+            let contacts = self.contacts.iter();
+            contacts.map(|contact| sheet.greatest(*contact).current)
+        });
+        rows.max().unwrap_or(0)
     }
 }

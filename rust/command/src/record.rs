@@ -54,8 +54,8 @@ impl Record<'_> {
         usize::from(u16::from_le_bytes([self.0[at], self.0[at + 1]]))
     }
 
-    /// What the record says, whether it is right or not.
-    pub fn words(&self) -> String {
+    /// What the record says, whether it is right or not, its pins by the words that nets have.
+    pub fn words(&self, net: impl Fn(usize) -> String) -> String {
         if self.is_input() {
             return format!("input, allowed {}", excitation::members(self.allowed()));
         }
@@ -63,7 +63,7 @@ impl Record<'_> {
             Some(kind) => KINDS[kind].to_string(),
             None => format!("kind {}", self.0[0]),
         };
-        let pins: Vec<String> = self.pins().iter().map(usize::to_string).collect();
+        let pins: Vec<String> = self.pins().into_iter().map(net).collect();
         let of = match self.0[3] {
             1 => format!("of net {}", pins[0]),
             2..=4 => format!("of nets {}", pins.join(", ")),

@@ -3,6 +3,8 @@
 
 use std::iter;
 
+use zimgurav::CONTACTS;
+
 use crate::block::Block;
 use crate::columns::Columns;
 use crate::evaluation::{Drawn, Searched, Setting};
@@ -32,12 +34,25 @@ p.made { color: #555; margin-top: 2.5rem; }
 pub fn page(block: &Block, setting: &Setting, searched: &Searched, ceiling: &Drawn) -> String {
     let title = escaped(&format!("Supply current of {}", block.name));
     let (size, values) = (block.size(), escaped(&summary::search_setting(setting)));
+    let mut pictures = [
+        Picture::of_search(block, setting, searched),
+        Picture::of_envelope(block, setting, ceiling),
+    ];
+    let greatest = pictures.iter().map(Picture::greatest).max();
+    for picture in &mut pictures {
+        picture.reaching = greatest.unwrap_or(0);
+    }
+    let [of_search, of_envelope] = pictures.map(|picture| svg::draw(&picture));
     let sections = [
-        search_section(block, setting, searched),
+        search_section(setting, searched) + &of_search,
         currents_section(block, searched, ceiling),
-        envelope_section(block, ceiling),
+        section(
+            "Envelope",
+            &(numbers(&summary::of_envelope(ceiling)) + &of_envelope),
+        ),
         pattern_section(block, searched),
         block_section(block),
+        table_section(setting),
         sheet_section(block, &searched.ceiling),
     ];
     format!(
@@ -50,10 +65,11 @@ pub fn page(block: &Block, setting: &Setting, searched: &Searched, ceiling: &Dra
     )
 }
 
-fn search_section(block: &Block, setting: &Setting, searched: &Searched) -> String {
-    let picture = svg::draw(&Picture::of_search(block, searched));
+fn search_section(setting: &Setting, searched: &Searched) -> String {
     let numbers = numbers(&summary::of_search(setting, searched));
-    section("Search", &(numbers + &picture))
+    let remark = "<p>For the drop, use U; for the currents, the sheet. The sheet takes its words from different \
+                  cases, so that its own drop may be above U.</p>\n";
+    section("Search", &(numbers + remark))
 }
 
 /// The greatest currents of all sheets, side by side.
@@ -65,12 +81,6 @@ fn currents_section(block: &Block, searched: &Searched, ceiling: &Drawn) -> Stri
     ];
     let columns = columns(&summary::greatest_currents(block, &sheets));
     section("Greatest current of each contact", &columns)
-}
-
-fn envelope_section(block: &Block, ceiling: &Drawn) -> String {
-    let picture = svg::draw(&Picture::of_envelope(block, ceiling));
-    let numbers = numbers(&summary::of_envelope(ceiling));
-    section("Envelope", &(numbers + &picture))
 }
 
 /// The excitation of each input.
@@ -95,6 +105,24 @@ fn block_section(block: &Block) -> String {
     let nets = format!("<ul>\n{nets}</ul>\n");
     let numbers = numbers(&summary::of_block(block));
     section("Block", &(numbers + &folded("The nets, one by one", &nets)))
+}
+
+/// The resistances of the bus nodes.
+fn table_section(setting: &Setting) -> String {
+    let headings = (0..CONTACTS).map(|contact| contact.to_string());
+    let nodes = setting.table.resistances.chunks(CONTACTS).enumerate();
+    let rows = nodes.map(|(node, resistances)| {
+        let resistances = resistances.iter().map(u16::to_string);
+        iter::once(node.to_string()).chain(resistances).collect()
+    });
+    let resistances = Columns {
+        headings: iter::once("node".to_string()).chain(headings).collect(),
+        rows: rows.collect(),
+    };
+    section(
+        "Resistances of the bus nodes to the contacts, in milliohms",
+        &columns(&resistances),
+    )
 }
 
 /// The microamperes of the used contacts, tick by tick.
@@ -127,7 +155,10 @@ fn folded(title: &str, contents: &str) -> String {
 
 fn numbers(numbers: &Numbers) -> String {
     let rows = numbers.iter().map(|(name, words)| {
-        let words = escaped(words);
+        let words = match *name {
+            "pattern" => format!("<code>{}</code>", escaped(words)),
+            _ => escaped(words),
+        };
         format!("<tr><th>{name}</th><td>{words}</td></tr>\n")
     });
     let rows: String = rows.collect();

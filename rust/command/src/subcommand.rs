@@ -108,16 +108,20 @@ pub const SUBCOMMANDS: [Subcommand; 7] = [
     },
 ];
 
-/// The first operand, and those after it.
-fn operands(arguments: &Arguments) -> Result<(&OsStr, &[OsString]), Failure> {
+/// The first operand, which the help calls by this name, and those after it.
+fn operands<'a>(
+    arguments: &'a Arguments,
+    name: &str,
+) -> Result<(&'a OsStr, &'a [OsString]), Failure> {
     let operands = arguments.operands.split_first();
-    let (first, rest) = operands.ok_or_else(|| Failure::usage("an operand is missing"))?;
+    let missing = || Failure::usage(format_args!("{name} is missing"));
+    let (first, rest) = operands.ok_or_else(missing)?;
     Ok((first, rest))
 }
 
 /// The one operand that a subcommand takes.
-fn operand(arguments: &Arguments) -> Result<&OsStr, Failure> {
-    let (operand, rest) = operands(arguments)?;
+fn operand<'a>(arguments: &'a Arguments, name: &str) -> Result<&'a OsStr, Failure> {
+    let (operand, rest) = operands(arguments, name)?;
     no_more(rest)?;
     Ok(operand)
 }
@@ -152,7 +156,7 @@ fn block(arguments: &Arguments, path: &OsStr) -> Result<Block, Failure> {
 }
 
 fn read(arguments: &Arguments) -> Result<(), Failure> {
-    let block = block(arguments, operand(arguments)?)?;
+    let block = block(arguments, operand(arguments, "BLOCK")?)?;
     let mut text = format!("{}\n", block.name);
     text += &summary::lines(&summary::of_block(&block));
     if arguments.has(NETS.name) {
@@ -164,15 +168,16 @@ fn read(arguments: &Arguments) -> Result<(), Failure> {
 fn bench(arguments: &Arguments) -> Result<(), Failure> {
     let cells = arguments.value(CELLS.name).ok_or_else(|| missing(&CELLS))?;
     let path = written_file(arguments, &BLOCK_FILE)?;
-    let block = Block::of_text(operand(arguments)?, cells)?;
+    let block = Block::of_text(operand(arguments, "TEXT")?, cells)?;
     files::write(path, &block.file)?;
-    output::print(&format!("{}: {}\n", block.name, block.size()))
+    let (name, size, path) = (&block.name, block.size(), path.display());
+    output::print(&format!("{name}: {size}, written to {path}\n"))
 }
 
 fn envelope(arguments: &Arguments) -> Result<(), Failure> {
     let written = Written::given(arguments)?;
     let setting = Setting::given(arguments)?;
-    let block = block(arguments, operand(arguments)?)?;
+    let block = block(arguments, operand(arguments, "BLOCK")?)?;
     let ceiling = evaluation::envelope(&block, &setting)?;
     print_answer(
         &block,
@@ -180,15 +185,15 @@ fn envelope(arguments: &Arguments) -> Result<(), Failure> {
         &summary::of_envelope(&ceiling),
         &[("at most", &ceiling.sheet)],
     )?;
-    written.write(&Picture::of_envelope(&block, &ceiling))
+    written.write(&Picture::of_envelope(&block, &setting, &ceiling))
 }
 
 fn simulate(arguments: &Arguments) -> Result<(), Failure> {
     let written = Written::given(arguments)?;
     let setting = Setting::given(arguments)?;
-    let (path, pattern) = operands(arguments)?;
+    let (path, pattern) = operands(arguments, "BLOCK")?;
     if pattern.is_empty() {
-        return Err(Failure::usage("the pattern is missing"));
+        return Err(Failure::usage("PATTERN is missing"));
     }
     let block = block(arguments, path)?;
     let pattern = Pattern::given(&block, pattern)?;
@@ -199,14 +204,14 @@ fn simulate(arguments: &Arguments) -> Result<(), Failure> {
         &summary::of_simulation(&pattern, &simulated),
         &[("greatest", &simulated.sheet)],
     )?;
-    written.write(&Picture::of_simulation(&block, &simulated))
+    written.write(&Picture::of_simulation(&block, &setting, &simulated))
 }
 
 fn search(arguments: &Arguments) -> Result<(), Failure> {
     let written = Written::given(arguments)?;
     let pattern = arguments.written_file(&PATTERN)?;
     let setting = Setting::given(arguments)?;
-    let block = block(arguments, operand(arguments)?)?;
+    let block = block(arguments, operand(arguments, "BLOCK")?)?;
     let searched = evaluation::search(&block, &setting)?;
     print_answer(
         &block,
@@ -217,22 +222,24 @@ fn search(arguments: &Arguments) -> Result<(), Failure> {
             ("pattern", &searched.simulated.sheet),
         ],
     )?;
+    let written = written.write(&Picture::of_search(&block, &setting, &searched));
     if let Some(path) = pattern {
         files::write(path, searched.pattern.file(&block))?;
     }
-    written.write(&Picture::of_search(&block, &searched))
+    written
 }
 
 fn report(arguments: &Arguments) -> Result<(), Failure> {
     let path = written_file(arguments, &PAGE)?;
     let setting = Setting::given(arguments)?;
-    let block = block(arguments, operand(arguments)?)?;
+    let block = block(arguments, operand(arguments, "BLOCK")?)?;
     let ceiling = evaluation::envelope(&block, &setting)?;
     let searched = evaluation::search(&block, &setting)?;
     let page = report::page(&block, &setting, &searched, &ceiling);
     files::write(path, page)?;
-    let (name, bounds) = (&block.name, summary::bounds(&searched.found));
-    output::print(&format!("{name}: {bounds}\n"))
+    let (name, path) = (&block.name, path.display());
+    let bounds = summary::bounds(&searched.found);
+    output::print(&format!("{name}: {bounds}\nThe page is {path}.\n"))
 }
 
 fn selftest(arguments: &Arguments) -> Result<(), Failure> {
@@ -270,22 +277,21 @@ impl<'a> Written<'a> {
         })
     }
 
-    /// Writes them. The comma-separated values are those of the ceiling, where there is one.
+    /// Writes them, all that can be written. The comma-separated values are those of the ceiling, where there is one.
     fn write(&self, picture: &Picture) -> Result<(), Failure> {
-        if let Some(path) = self.svg {
-            files::write(path, svg::draw(picture))?;
-        }
         let named = [("ceiling", picture.ceiling), ("pattern", picture.simulated)];
         let sheets: Vec<(&str, &Sheet)> = named
             .into_iter()
             .filter_map(|(name, sheet)| Some((name, sheet?)))
             .collect();
-        if let (Some(path), [(_, sheet), ..]) = (self.csv, &sheets[..]) {
-            files::write(path, csv::written(sheet))?;
-        }
-        if let Some(path) = self.vcd {
-            files::write(path, vcd::written(&picture.contacts, &sheets))?;
-        }
-        Ok(())
+        let first = sheets.first().map(|(_, sheet)| csv::written(sheet));
+        let files = [
+            (self.svg, svg::draw(picture)),
+            (self.csv, first.unwrap_or_default()),
+            (self.vcd, vcd::written(&picture.contacts, &sheets)),
+        ];
+        let written =
+            files.map(|(path, text)| path.map_or(Ok(()), |path| files::write(path, text)));
+        written.into_iter().collect()
     }
 }

@@ -154,7 +154,7 @@ pub fn bounds(found: &Found) -> String {
 /// How a search ended.
 fn outcome(found: &Found, setting: &Setting) -> String {
     match found.outcome {
-        Outcome::Exact => "exact: U is L".to_string(),
+        Outcome::Exact => "exact for the drop: U is L".to_string(),
         Outcome::Within => format!(
             "within: U is at most {} times L",
             thousandths(setting.ratio)
@@ -179,7 +179,7 @@ fn apart(found: &Found) -> String {
         return format!("{difference} nV");
     }
     let quotient = thousandths((1_000 * upper).div_ceil(lower));
-    format!("{difference} nV: U is {quotient} times L")
+    format!("{difference} nV: U is at most {quotient} times L")
 }
 
 /// Thousandths as a decimal number: `2.988`.

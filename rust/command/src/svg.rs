@@ -50,7 +50,7 @@ const LABEL_HEIGHT: u64 = 18 * PIXEL;
 const EMPTY_HEIGHT: u64 = 110 * PIXEL;
 
 /// From the bottom of the last row to that of the picture.
-const FOOT: u64 = 54 * PIXEL;
+const FOOT: u64 = 74 * PIXEL;
 
 /// From the middle of a line of words down to the line that they stand on.
 const HALF_LINE: u64 = 4 * PIXEL;
@@ -121,14 +121,11 @@ struct Plot {
 }
 
 impl Plot {
-    fn new(contacts: &[usize], layers: &[Layer]) -> Self {
-        let currents = contacts.iter().flat_map(|&contact| {
-            let greatest = move |layer: &Layer| layer.sheet.greatest(contact).current;
-            layers.iter().map(greatest)
-        });
-        let greatest = currents.max().unwrap_or(0);
-        let quiet = layers.iter().map(|layer| layer.sheet.quiet).max();
-        let rows = contacts.len() as u64;
+    fn new(picture: &Picture) -> Self {
+        let greatest = picture.greatest().max(picture.reaching);
+        let sheets = picture.ceiling.into_iter().chain(picture.simulated);
+        let quiet = sheets.map(|sheet| sheet.quiet).max();
+        let rows = picture.contacts.len() as u64;
         Plot {
             quiet: quiet.unwrap_or(0),
             scale: Scale::reaching(greatest),
@@ -178,7 +175,7 @@ pub fn draw(picture: &Picture) -> String {
     let simulated = |sheet| Layer::simulated(sheet, alone);
     let simulated = picture.simulated.map(simulated);
     let layers: Vec<Layer> = ceiling.into_iter().chain(simulated).collect();
-    let plot = Plot::new(&picture.contacts, &layers);
+    let plot = Plot::new(picture);
     let mut svg = opening(picture, &layers, plot.height());
     svg += &heading(picture);
     if picture.contacts.is_empty() {
@@ -187,6 +184,7 @@ pub fn draw(picture: &Picture) -> String {
     } else {
         svg += &legend(&layers);
         svg += &tick_axis(&plot, alone);
+        svg += &foot(picture, &plot);
         svg += &rows(&picture.contacts, &plot, &layers);
     }
     svg + "</svg>\n"
@@ -266,6 +264,12 @@ fn tick_axis(plot: &Plot, alone: bool) -> String {
         quiet => format!("{who} after tick {quiet}."),
     };
     axis + &text(LEFT, bottom + 38 * PIXEL, SMALL, &words)
+}
+
+/// The values that the call was made with, under all else.
+fn foot(picture: &Picture, plot: &Plot) -> String {
+    let setting = shortened(&picture.setting, CAPTION_ROOM);
+    text(MARGIN, plot.height() - 16 * PIXEL, SMALL, &setting)
 }
 
 /// The rows, and above them what the numbers beside them are.
@@ -401,14 +405,24 @@ mod tests {
         Sheet::new(words, GREATEST_QUIET)
     }
 
-    fn drawn(contacts: &[usize], ceiling: Option<&Sheet>, simulated: Option<&Sheet>) -> String {
-        let svg = draw(&Picture {
+    fn picture<'a>(
+        contacts: &[usize],
+        ceiling: Option<&'a Sheet>,
+        simulated: Option<&'a Sheet>,
+    ) -> Picture<'a> {
+        Picture {
             title: "Search of a.blk".to_string(),
             caption: "U 720, L 320".to_string(),
+            setting: "one bus node".to_string(),
             contacts: contacts.to_vec(),
             ceiling,
             simulated,
-        });
+            reaching: 0,
+        }
+    }
+
+    fn drawn(contacts: &[usize], ceiling: Option<&Sheet>, simulated: Option<&Sheet>) -> String {
+        let svg = draw(&picture(contacts, ceiling, simulated));
         assert_eq!(well_formed(&svg), Ok(()));
         svg
     }
@@ -494,6 +508,18 @@ mod tests {
         assert_eq!(svg.matches("<circle ").count(), 3 + 4);
     }
 
+    /// A picture beside others has their scale.
+    #[test]
+    fn a_scale_reaches_what_it_has_to() {
+        let ceiling = ceiling();
+        let svg = draw(&Picture {
+            reaching: 1_400,
+            ..picture(&[0], Some(&ceiling), None)
+        });
+        assert!(has_words(&svg, &["1,500 µA", "1,000 µA", "500 µA", "0"]));
+        assert!(has_words(&svg, &["one bus node"]));
+    }
+
     #[test]
     fn axes_have_labels() {
         let svg = drawn(&[0, 5], Some(&ceiling()), Some(&simulated()));
@@ -537,7 +563,7 @@ mod tests {
     #[test]
     fn stretches_of_current_are_apart() {
         let currents = sheet(5, &[(0, 0, 4), (0, 4, 2), (0, 5, 4)]);
-        let plot = Plot::new(&[0], &[Layer::ceiling(&currents)]);
+        let plot = Plot::new(&picture(&[0], Some(&currents), None));
         assert_eq!(
             area(&plot, 0, currents.row(0)),
             "M164.0 342.0L164.0 120.0L255.0 342.0M437.0 342.0L528.0 231.0L619.0 120.0L710.0 342.0"
@@ -574,7 +600,7 @@ mod tests {
         let points = points(&svg);
         // A point for each tick, one to start from and one after the quiet tick.
         assert_eq!(points.len(), 2 * CONTACTS * (GREATEST_QUIET as usize + 3));
-        let plot = Plot::new(&contacts, &[Layer::ceiling(&largest)]);
+        let plot = Plot::new(&picture(&contacts, Some(&largest), None));
         let bottom = plot.bottom(15);
         for (x, y) in points {
             assert!((LEFT..=LEFT + PLOT_WIDTH).contains(&x), "{x}");
@@ -586,12 +612,12 @@ mod tests {
 
     #[test]
     fn names_of_files_are_escaped() {
+        let ceiling = ceiling();
         let svg = draw(&Picture {
             title: "Search of <b> & \"c\u{1}\".blk".to_string(),
             caption: "</desc>".to_string(),
-            contacts: vec![0],
-            ceiling: Some(&ceiling()),
-            simulated: None,
+            setting: "1 bus node of <b>".to_string(),
+            ..picture(&[0], Some(&ceiling), None)
         });
         assert_eq!(well_formed(&svg), Ok(()));
         let title = "Search of &lt;b&gt; &amp; &quot;c\u{fffd}&quot;.blk";

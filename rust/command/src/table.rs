@@ -9,6 +9,7 @@ use crate::failure::Failure;
 use crate::files;
 use crate::number::{counted, grouped};
 use crate::options::{OHMS, TABLE};
+use crate::output;
 
 /// The resistances of the bus nodes, and where they come from.
 pub struct Table {
@@ -40,7 +41,7 @@ impl Table {
         milliohms.map(Table::of_one_node).ok_or_else(|| {
             let ohms = ohms.display();
             Failure::usage(format_args!(
-                "--ohms takes 0 to 65.535 with three decimals at most, and not {ohms}"
+                "--ohms takes 0 to 65.535, as 0.5 or 12, with at most three decimals, and not {ohms}"
             ))
         })
     }
@@ -73,16 +74,18 @@ impl Table {
     }
 }
 
-/// The resistances of a line, blanks or commas between them.
+/// The resistances of a line, with commas between them or, where there is none, blanks.
 fn node(line: &str) -> Result<Vec<u16>, String> {
-    let words = line.split(|character: char| character == ',' || character.is_whitespace());
-    let words = words.filter(|word| !word.is_empty());
-    let node: Result<Vec<u16>, String> = words
-        .map(|word| {
-            word.parse()
-                .map_err(|_| format!("{word} is no resistance from 0 to 65535 milliohms"))
-        })
-        .collect();
+    let words: Vec<&str> = match line.contains(',') {
+        true => line.split(',').map(str::trim).collect(),
+        false => line.split_whitespace().collect(),
+    };
+    let resistance = |word: &str| {
+        let word = output::shortened(word);
+        let message = format!("'{word}' is no resistance from 0 to 65535 milliohms");
+        word.parse().map_err(|_| message)
+    };
+    let node: Result<Vec<u16>, String> = words.into_iter().map(resistance).collect();
     let node = node?;
     match node.len() {
         CONTACTS => Ok(node),

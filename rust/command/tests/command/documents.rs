@@ -1,6 +1,10 @@
 //! What the documents show of the command: every `$ zimgurav` on them prints what stands after it.
 
-use crate::run::{file, printed, run_on, text};
+use std::fs;
+use std::os::unix::fs::symlink;
+use std::path::Path;
+
+use crate::run::{command, file, printed, root, run_on, scratch, text};
 
 /// The documents, and how many commands each shows with what it prints.
 const DOCUMENTS: [(&str, usize); 3] = [
@@ -43,6 +47,40 @@ fn show_what_is_printed() {
     }
 }
 
+/// The commands of README, from the netlist to the page, can be given as they stand there.
+#[test]
+fn commands_of_the_readme() {
+    let folder = scratch("readme");
+    fs::create_dir_all(&folder).expect("a folder");
+    let link = Path::new(&folder).join("examples");
+    symlink(root().join("examples"), &link).expect("a link");
+    let page = text("README.md");
+    let lines = page
+        .lines()
+        .filter_map(|line| line.strip_prefix("    zimgurav "));
+    let commands: Vec<&str> = lines.filter_map(|line| line.split(" #").next()).collect();
+    assert!(commands.len() > 6, "{commands:?}");
+    for line in commands {
+        let words: Vec<&str> = line.split_whitespace().collect();
+        let ended = command(&words).current_dir(&folder).output();
+        let ended = ended.expect("the command starts");
+        assert!(
+            ended.status.success(),
+            "{line}: {}",
+            String::from_utf8_lossy(&ended.stderr)
+        );
+    }
+    for written in [
+        "c17.blk",
+        "c17.svg",
+        "adder24.svg",
+        "adder24.html",
+        "worst.txt",
+    ] {
+        assert!(Path::new(&folder).join(written).is_file(), "{written}");
+    }
+}
+
 /// The refusal that the reference page shows is one that the command says.
 #[test]
 fn show_a_refusal() {
@@ -75,6 +113,7 @@ fn list_the_options() {
         .map(|line| line.split(' ').next().unwrap_or(""))
         .collect();
     assert_eq!(names.len(), 7);
+    let mut options_seen = 0;
     for name in names {
         assert!(section.contains(&format!("| `{name}")), "{name}");
         let help = printed(&[name, "--help"]);
@@ -82,6 +121,8 @@ fn list_the_options() {
         for option in options.filter_map(|line| line.split("  ").next()) {
             let known = section.contains(&format!("`{}`", option.trim_end()));
             assert!(known, "{name}: {option}");
+            options_seen += 1;
         }
     }
+    assert_eq!(options_seen, 35);
 }

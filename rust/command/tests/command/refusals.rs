@@ -8,6 +8,14 @@ use crate::run::{file, run, run_on, scratch, text, Ended};
 
 const CELLS: &str = "examples/cells.txt";
 
+/// What is said of the ranges.
+const RANGES: &str =
+    "a contact is 0 to 15, a delay 1 to 63, rise and fall are 1 to 127, an input's set is 1 to 15";
+
+/// What is said of the forms of a line.
+const FORMS: &str = "the forms are INPUT(name), OUTPUT(name) and name = KIND(name, ...), \
+                     and a name is 1 to 16 letters or digits";
+
 /// The command says just these lines on standard error.
 #[track_caller]
 fn refused(ended: Ended, lines: &[&str]) {
@@ -106,6 +114,7 @@ mod of_a_file {
                 "standard input: refused 6 at net 2: a gate's pin count is wrong for its kind",
                 "net 2: NOT of 5 pins; contact 0; delay 1, rise 1, fall 2 ticks; peaks 10 µA lh, 20 µA hl",
                 "its bytes: 08 00 01 05 00 00 00 00 00 00 00 00 01 02 0a 00 14 00 00 00",
+                "a NOT or BUF has 1 pin, any other gate 2 to 4",
             ],
         );
     }
@@ -145,6 +154,7 @@ mod of_a_file {
                 &format!("standard input: refused 9 at net 3: {MEANING}"),
                 "net 3: NAND of nets 1, 2; contact 16; delay 2, rise 2, fall 2 ticks; peaks 30 µA lh, 31 µA hl",
                 "its bytes: 03 10 02 02 01 00 02 00 00 00 00 00 02 02 1e 00 1f 00 00 00",
+                RANGES,
             ],
         );
         unread(
@@ -153,6 +163,7 @@ mod of_a_file {
                 &format!("standard input: refused 9 at net 1: {MEANING}"),
                 "net 1: input, allowed set 16",
                 "its bytes: 01 00 00 00 00 00 00 00 00 00 00 00 00 00 00 00 00 00 10 00",
+                RANGES,
             ],
         );
     }
@@ -171,10 +182,21 @@ mod of_a_file {
             &block,
             &[
                 "standard input: refused 10 at net 6: a gate's arrival is after tick 255",
-                "net 6: NOT of net 5; contact 0; delay 63, rise 1, fall 2 ticks; peaks 10 µA lh, 20 µA hl",
+                "net 6: NOT of net 5; contact 0; delay 63, rise 1, fall 2 ticks; peaks 10 µA lh, 20 µA hl; \
+                 arrives at tick 315",
                 "its bytes: 08 00 3f 01 05 00 00 00 00 00 00 00 01 02 0a 00 14 00 00 00",
             ],
         );
+    }
+
+    /// A text that has the name of no bench text.
+    #[test]
+    fn text_as_a_file() {
+        let ended = run_on(b"INPUT(a)\nb = NOT(a)\n", &["read", "-"]);
+        let hint =
+            "\n  it is a text: a bench text has a name that ends in .bench, and --cells LIST\n";
+        assert!(ended.error.ends_with(hint), "{ended:?}");
+        assert_eq!(ended.status, 1);
     }
 
     /// Every subcommand that takes a block reads it first.
@@ -251,7 +273,7 @@ mod of_arguments {
             &["search", "--budget", "18446744073709551615"],
             &[
                 "examples/block_f.blk: refused 14: the budget is above 10,000",
-                "the budget is 18446744073709551615",
+                "the budget is 18,446,744,073,709,551,615",
             ],
         );
     }
@@ -311,6 +333,7 @@ mod of_a_text {
                 "standard input: refused 17 at line 3: a line of the text fits no form, has no known kind \
                  or a wrong pin count, or is an INPUT after a gate",
                 "line 3: \\tc = NAND(a b # no comma",
+                FORMS,
             ],
         );
     }
@@ -320,20 +343,30 @@ mod of_a_text {
     fn long_line() {
         let line = "c = NAND(a, b) ".repeat(20);
         let ended = run_on(line.as_bytes(), &["read", "-", "--cells", CELLS]);
-        let shown = format!("  line 1: {} ...\n", &line[..160]);
+        let shown = format!("\n  line 1: {} ...\n  {FORMS}\n", &line[..160]);
         assert!(ended.error.ends_with(&shown), "{ended:?}");
     }
 
+    /// The name that no earlier line gives, or the line that gave it.
     #[test]
     fn name() {
-        unread(
-            "INPUT(a)\n\nc = NOT(d)",
-            &[
-                "standard input: refused 18 at line 3: a line of the text uses a name that no earlier line gives, \
-                 or gives one that an earlier line gave",
-                "line 3: c = NOT(d)",
-            ],
-        );
+        const SENTENCE: &str = "a line of the text uses a name that no earlier line gives, \
+                                or gives one that an earlier line gave";
+        for (line, fault) in [
+            ("c = NOT(d)", "no earlier line gives d"),
+            ("c = AND(a, b, c)", "no earlier line gives c"),
+            ("b = AND(b, a)", "line 2 gives b already"),
+            ("INPUT(a)", "line 1 gives a already"),
+        ] {
+            unread(
+                &format!("INPUT(a)\r\nINPUT(b) # c\n\n{line}\r\nc = NOT(a)"),
+                &[
+                    &format!("standard input: refused 18 at line 4: {SENTENCE}"),
+                    &format!("line 4: {line}"),
+                    fault,
+                ],
+            );
+        }
     }
 
     #[test]
@@ -398,6 +431,7 @@ mod of_a_text {
                      or an input's set of allowed excitations, is out of range"
                 ),
                 "line 10: XOR   16       3      2      4      120            100",
+                RANGES,
             ],
         );
     }

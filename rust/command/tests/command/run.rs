@@ -34,8 +34,9 @@ pub fn scratch(name: &str) -> String {
     static FILES: AtomicUsize = AtomicUsize::new(0);
     let number = FILES.fetch_add(1, Ordering::Relaxed);
     let path = Path::new(env!("CARGO_TARGET_TMPDIR")).join(format!("{number}-{name}"));
-    // Of an earlier run.
+    // What an earlier run left there.
     let _ = fs::remove_file(&path);
+    let _ = fs::remove_dir_all(&path);
     assert!(!path.exists(), "{}", path.display());
     path.to_str().expect("a path that is text").to_string()
 }

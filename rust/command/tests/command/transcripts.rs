@@ -1,7 +1,8 @@
 //! The command on the examples, against what it printed when somebody last looked at it.
 //!
 //! A file of `transcripts/` has lines `$ zimgurav ARGUMENTS`, each with what the command prints after it. With
-//! `ZIMGURAV_TRANSCRIPTS=write` in the environment the files are written anew; look at the difference before you keep it.
+//! `ZIMGURAV_TRANSCRIPTS=write` in the environment the files are written anew: look at the difference before you
+//! keep it.
 
 use std::{env, fs};
 

@@ -42,17 +42,23 @@ fn subcommands() {
 
 #[test]
 fn operands() {
-    misused(&["read"], "an operand is missing");
+    misused(&["read"], "BLOCK is missing");
+    misused(&["bench", "--cells", "x", "-o", "y"], "TEXT is missing");
     misused(&["search", BLOCK, "more"], "more is an operand too many");
     misused(&["selftest", "more"], "more is an operand too many");
-    misused(&["simulate", BLOCK], "the pattern is missing");
+    misused(&["simulate", BLOCK], "PATTERN is missing");
 }
 
 #[test]
 fn options() {
     misused(&["read", BLOCK, "--svg", "x"], "there is no option --svg");
     misused(&["read", BLOCK, "-x"], "there is no option -x");
-    for empty in [&["--svg"][..], &["--svg="], &["--svg", ""]] {
+    for empty in [
+        &["--svg"][..],
+        &["--svg="],
+        &["--svg", ""],
+        &["--svg", "--csv", "x"],
+    ] {
         let arguments = [&["search", BLOCK], empty].concat();
         misused(&arguments, "--svg takes a value: --svg FILE");
     }
@@ -61,10 +67,12 @@ fn options() {
         &["search", BLOCK, "--budget", "1", "--budget=2"],
         "--budget is given twice",
     );
-    for number in ["ten", "-1", "1.5", "18446744073709551616"] {
+    for number in ["ten", "1.5", "18446744073709551616"] {
         misused(
             &["search", BLOCK, "--budget", number],
-            &format!("--budget takes a number, and {number} is none"),
+            &format!(
+                "--budget takes a whole number, 0 to 18,446,744,073,709,551,615, and not {number}"
+            ),
         );
     }
     for option in ["--svg", "--csv", "--vcd", "--pattern"] {
@@ -94,14 +102,18 @@ fn files() {
         "examples: Is a directory (os error 21)",
     );
     wrong(&["read", "/dev/zero"], "/dev/zero: longer than 64 MiB");
+    wrong(
+        &["envelope", BLOCK, "--csv", "nowhere/x.csv"],
+        "nowhere/x.csv: there is no folder nowhere",
+    );
     // The answer is printed before a file that cannot be written ends the command.
-    let ended = run(&["envelope", BLOCK, "--csv", "nowhere/x.csv"]);
+    let ended = run(&["envelope", BLOCK, "--csv", "/dev/full"]);
     assert_eq!(ended.output, printed(&["envelope", BLOCK]));
     assert_eq!(
         (ended.status, &ended.error[..]),
         (
             2,
-            "zimgurav: nowhere/x.csv: No such file or directory (os error 2)\n"
+            "zimgurav: /dev/full: No space left on device (os error 28)\n"
         )
     );
 }
@@ -118,19 +130,25 @@ fn texts_and_lists() {
     );
 }
 
-/// The second file for which standard input is given has nothing to read.
 #[test]
 fn standard_input_twice() {
-    let table = b"1 1 1 1 1 1 1 1 1 1 1 1 1 1 1 1";
-    let ended = run_on(table, &["simulate", "-", "--table", "-", "lh"]);
-    let expected = Ended {
-        status: 2,
-        output: String::new(),
-        error: "zimgurav: standard input is given for more than one file\n\
-                'zimgurav simulate --help' says how it is used\n"
-            .to_string(),
-    };
-    assert_eq!(ended, expected);
+    for arguments in [
+        &["simulate", "-", "-"][..],
+        &["simulate", "-", "--table", "-", "lh"],
+        &["bench", "-", "--cells", "-", "-o", "x"],
+    ] {
+        misused(arguments, "standard input is given for more than one file");
+    }
+}
+
+/// What a terminal would take for orders is not handed on to it.
+#[test]
+fn control_characters() {
+    let path = scratch("controls.txt");
+    fs::write(&path, "\u{1b}[2J\u{7}\n").expect("written");
+    let arguments = ["envelope", BLOCK, "--table", &path];
+    let message = "line 1: '\u{fffd}[2J\u{fffd}' is no resistance from 0 to 65535 milliohms";
+    wrong(&arguments, &format!("{path}: {message}"));
 }
 
 /// A cell list in which a line of the example is another one, or is followed by others.
@@ -156,22 +174,22 @@ fn cell_lists() {
     wrong_list(
         "OR",
         "INPUT 0 1 1 1 1 1",
-        "line 8: it begins with no kind of gate: INPUT 0 1 1 1 1 1",
+        "it begins with no kind of gate\n  line 8: INPUT 0 1 1 1 1 1",
     );
     wrong_list(
         "OR",
         "OR 0 1 1 1 1",
-        "line 8: a kind has contact, delay, rise, fall, peak lh and peak hl: OR 0 1 1 1 1",
+        "a kind has contact, delay, rise, fall, peak lh and peak hl\n  line 8: OR 0 1 1 1 1",
     );
     wrong_list(
         "OR",
         "OR 0 256 1 1 1 1",
-        "line 8: delay 256 is no number from 0 to 255: OR 0 256 1 1 1 1",
+        "delay 256 is not 1 to 63\n  line 8: OR 0 256 1 1 1 1",
     );
     wrong_list(
         "OR",
         "OR 0 1 1 1 1 65536",
-        "line 8: peak hl 65536 is no number from 0 to 65535: OR 0 1 1 1 1 65536",
+        "peak hl 65536 is not 0 to 65535\n  line 8: OR 0 1 1 1 1 65536",
     );
 }
 
@@ -179,7 +197,7 @@ fn cell_lists() {
 fn tables() {
     misused(
         &["envelope", BLOCK, "--ohms", "65.536"],
-        "--ohms takes 0 to 65.535 with three decimals at most, and not 65.536",
+        "--ohms takes 0 to 65.535, as 0.5 or 12, with at most three decimals, and not 65.536",
     );
     misused(
         &["envelope", BLOCK, "--ohms", "1", "--table", "x"],
@@ -194,7 +212,11 @@ fn tables() {
         ),
         (
             "1 1 1 1 1 1 1 1 1 1 1 1 1 1 1 65536",
-            "line 1: 65536 is no resistance from 0 to 65535 milliohms",
+            "line 1: '65536' is no resistance from 0 to 65535 milliohms",
+        ),
+        (
+            "1,1,1,1,1,1,1,1,,1,1,1,1,1,1,1,1",
+            "line 1: '' is no resistance from 0 to 65535 milliohms",
         ),
     ] {
         fs::write(&path, table).expect("written");
@@ -259,7 +281,7 @@ fn files_given_twice() {
         &format!("--svg would write {path}, which is given for something else too"),
     );
     let list = "examples/cells.txt";
-    for written in ["examples/c17.bench", list] {
+    for written in ["examples/c17.bench", list, "examples/../examples/c17.bench"] {
         misused(
             &[
                 "bench",
