@@ -34,16 +34,21 @@ fn shown(document: &str) -> Vec<(String, String)> {
     shown
 }
 
+/// The command prints the lines that a document says it does.
+#[track_caller]
+fn prints(path: &str, command: &str, lines: &str) {
+    let words: Vec<&str> = command.split(' ').skip(1).collect();
+    let now = printed(&words);
+    assert_eq!(now.trim_end(), lines.trim_end(), "{path}: {command}");
+}
+
 #[test]
 fn show_what_is_printed() {
     for (path, count) in DOCUMENTS {
         let commands = shown(&text(path));
         assert_eq!(commands.len(), count, "{path}");
-        for (command, lines) in commands {
-            let words: Vec<&str> = command.split(' ').skip(1).collect();
-            let now = printed(&words);
-            assert_eq!(lines.trim_end(), now.trim_end(), "{path}: {command}");
-        }
+        let commands = commands.iter();
+        commands.for_each(|(command, lines)| prints(path, command, lines));
     }
 }
 
@@ -108,21 +113,27 @@ fn list_the_options() {
         .expect("the section");
     let (section, _) = section.split_once("\n## ").expect("its end");
     let whole = printed(&["--help"]);
-    let names = whole.lines().filter_map(|line| line.strip_prefix("  "));
-    let names: Vec<&str> = names
-        .map(|line| line.split(' ').next().unwrap_or(""))
-        .collect();
+    let names = listed(&whole, " ");
     assert_eq!(names.len(), 7);
-    let mut options_seen = 0;
-    for name in names {
-        assert!(section.contains(&format!("| `{name}")), "{name}");
-        let help = printed(&[name, "--help"]);
-        let options = help.lines().filter_map(|line| line.strip_prefix("  "));
-        for option in options.filter_map(|line| line.split("  ").next()) {
-            let known = section.contains(&format!("`{}`", option.trim_end()));
-            assert!(known, "{name}: {option}");
-            options_seen += 1;
-        }
-    }
-    assert_eq!(options_seen, 35);
+    let missing = names
+        .iter()
+        .find(|name| !section.contains(&format!("| `{name}")));
+    assert_eq!(missing, None);
+    let helps: Vec<String> = names
+        .iter()
+        .map(|name| printed(&[name, "--help"]))
+        .collect();
+    let options: Vec<&str> = helps.iter().flat_map(|help| listed(help, "  ")).collect();
+    assert_eq!(options.len(), 35);
+    let missing = options
+        .iter()
+        .find(|option| !section.contains(&format!("`{option}`")));
+    assert_eq!(missing, None);
+}
+
+/// The beginnings of the lines that are indented, up to a mark.
+fn listed<'a>(help: &'a str, mark: &str) -> Vec<&'a str> {
+    let lines = help.lines().filter_map(|line| line.strip_prefix("  "));
+    let beginnings = lines.filter_map(|line| line.split(mark).next());
+    beginnings.map(str::trim_end).collect()
 }

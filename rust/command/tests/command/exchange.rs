@@ -41,18 +41,22 @@ fn words(values: &str) -> Vec<Word> {
     let headings: Vec<&str> = lines.next().expect("headings").split(',').collect();
     assert_eq!(headings.len(), 1 + CONTACTS);
     assert_eq!((headings[0], headings[16]), ("tick", "contact 15 (uA)"));
-    let mut words = vec![Word::MAX; SHEET_WORDS];
-    for (tick, line) in lines.enumerate() {
-        let numbers: Vec<Word> = line
-            .split(',')
-            .map(|word| word.parse().expect("a number"))
-            .collect();
-        assert_eq!((numbers.len(), numbers[0]), (1 + CONTACTS, tick as Word));
-        for (contact, current) in numbers[1..].iter().enumerate() {
-            words[ROW_TICKS * contact + tick] = *current;
-        }
-    }
-    words
+    let ticks: Vec<Vec<Word>> = lines.map(numbers).collect();
+    assert_eq!(ticks.len(), ROW_TICKS);
+    let currents = (0..SHEET_WORDS).map(|at| {
+        let (contact, tick) = (at / ROW_TICKS, at % ROW_TICKS);
+        assert_eq!(ticks[tick][0], tick as Word);
+        ticks[tick][1 + contact]
+    });
+    currents.collect()
+}
+
+/// The numbers of a line: the tick, and the current of each contact.
+fn numbers(line: &str) -> Vec<Word> {
+    let numbers = line.split(',').map(|word| word.parse().expect("a number"));
+    let numbers: Vec<Word> = numbers.collect();
+    assert_eq!(numbers.len(), 1 + CONTACTS);
+    numbers
 }
 
 #[test]

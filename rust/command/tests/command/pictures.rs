@@ -45,12 +45,11 @@ fn stands_alone(markup: &str, what: &str) {
 
 #[test]
 fn pictures_stand_alone() {
-    for block in BLOCKS {
-        for subcommand in ["envelope", "search"] {
-            let arguments = [&[subcommand], block, &["--svg"]].concat();
-            let picture = written(&arguments, "picture.svg");
-            stands_alone(&picture, &format!("{arguments:?}"));
-        }
+    let calls = BLOCKS.map(|block| ["envelope", "search"].map(|name| [&[name], block].concat()));
+    for call in calls.as_flattened() {
+        let arguments = [&call[..], &["--svg"]].concat();
+        let picture = written(&arguments, "picture.svg");
+        stands_alone(&picture, &format!("{arguments:?}"));
     }
     let simulate = ["simulate", "examples/block_f.blk", "lh", "lh", "--svg"];
     stands_alone(&written(&simulate, "simulated.svg"), "a simulation");
@@ -100,18 +99,24 @@ fn names_are_escaped() {
 fn a_page_has_the_numbers() {
     let page = written(&["report", "examples/adder24.blk", "-o"], "adder24.html");
     let page = page.replace("<code>", "").replace("</code>", "");
-    for subcommand in ["search", "envelope", "read"] {
-        let output = printed(&[subcommand, "examples/adder24.blk"]);
-        let numbers = output.lines().filter_map(|line| line.split_once("   "));
-        let numbers: Vec<_> = numbers
-            .filter(|(name, _)| !name.trim().is_empty())
-            .collect();
-        assert!(numbers.len() > 1, "{output}");
-        for (name, words) in numbers.iter().filter(|(name, _)| *name != "contact") {
-            let row = format!("<tr><th>{}</th><td>{}</td></tr>", name.trim(), words.trim());
-            assert!(page.contains(&row), "{row}");
-        }
-    }
+    let outputs =
+        ["search", "envelope", "read"].map(|name| printed(&[name, "examples/adder24.blk"]));
+    let rows: Vec<String> = outputs
+        .iter()
+        .flat_map(|output| rows_of_numbers(output))
+        .collect();
+    assert_eq!(rows.len(), 8 + 2 + 5);
+    let missing = rows.iter().find(|row| !page.contains(*row));
+    assert_eq!(missing, None);
+}
+
+/// The rows in which a page has the numbers that a subcommand prints after their names.
+fn rows_of_numbers(output: &str) -> Vec<String> {
+    let lines = output.lines().filter_map(|line| line.split_once("   "));
+    let numbers = lines.filter(|(name, _)| !name.trim().is_empty() && *name != "contact");
+    let rows = numbers
+        .map(|(name, words)| format!("<tr><th>{}</th><td>{}</td></tr>", name.trim(), words.trim()));
+    rows.collect()
 }
 
 /// The tables of a page have the words that the subcommands print.

@@ -36,9 +36,9 @@ fn print_the_same() {
             fs::write(run::root().join(path), made).expect("a file that can be written");
             continue;
         }
-        for (line, (stored, made)) in stored.lines().zip(made.lines()).enumerate() {
-            assert_eq!(made, stored, "line {} of {path}", line + 1);
-        }
+        let mut lines = stored.lines().zip(made.lines()).zip(1..);
+        let differing = lines.find(|((stored, made), _)| stored != made);
+        assert_eq!(differing, None, "the first line of {path} that differs");
         assert_eq!(made, stored, "{path}");
     }
 }

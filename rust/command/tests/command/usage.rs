@@ -53,6 +53,22 @@ fn operands() {
 fn options() {
     misused(&["read", BLOCK, "--svg", "x"], "there is no option --svg");
     misused(&["read", BLOCK, "-x"], "there is no option -x");
+    misused(&["read", BLOCK, "--nets=1"], "--nets takes no value");
+    misused(
+        &["search", BLOCK, "--budget", "1", "--budget=2"],
+        "--budget is given twice",
+    );
+    misused(&["report", BLOCK], "-o FILE is missing");
+    let text = "examples/c17.bench";
+    misused(&["bench", text, "-o", "x"], "--cells LIST is missing");
+    misused(
+        &["bench", text, "--cells", "examples/cells.txt"],
+        "-o BLOCK is missing",
+    );
+}
+
+#[test]
+fn options_without_a_value() {
     for empty in [
         &["--svg"][..],
         &["--svg="],
@@ -62,11 +78,10 @@ fn options() {
         let arguments = [&["search", BLOCK], empty].concat();
         misused(&arguments, "--svg takes a value: --svg FILE");
     }
-    misused(&["read", BLOCK, "--nets=1"], "--nets takes no value");
-    misused(
-        &["search", BLOCK, "--budget", "1", "--budget=2"],
-        "--budget is given twice",
-    );
+}
+
+#[test]
+fn numbers() {
     for number in ["ten", "1.5", "18446744073709551616"] {
         misused(
             &["search", BLOCK, "--budget", number],
@@ -75,6 +90,10 @@ fn options() {
             ),
         );
     }
+}
+
+#[test]
+fn standard_input_as_an_output() {
     for option in ["--svg", "--csv", "--vcd", "--pattern"] {
         misused(
             &["search", BLOCK, option, "-"],
@@ -82,13 +101,6 @@ fn options() {
         );
     }
     assert!(!root().join("-").exists());
-    misused(&["report", BLOCK], "-o FILE is missing");
-    let text = "examples/c17.bench";
-    misused(&["bench", text, "-o", "x"], "--cells LIST is missing");
-    misused(
-        &["bench", text, "--cells", "examples/cells.txt"],
-        "-o BLOCK is missing",
-    );
 }
 
 #[test]
@@ -237,6 +249,10 @@ fn patterns() {
             "LH is not l, h, hl or lh, and no file",
         );
     }
+}
+
+#[test]
+fn files_of_patterns() {
     let path = scratch("a pattern.txt");
     for (pattern, message) in [
         ("# x\nlh\nlh up\n", "line 3: up is not l, h, hl or lh"),
