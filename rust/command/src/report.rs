@@ -22,7 +22,7 @@ h1 { font-size: 1.5rem; margin-bottom: 0.2rem; }
 h2 { font-size: 1.2rem; margin-top: 2.2rem; border-bottom: 1px solid #ccc; }
 table { border-collapse: collapse; margin: 1rem 0; }
 th, td { padding: 0.15rem 0.8rem; vertical-align: top; border-bottom: 1px solid #e5e5e5; }
-table.numbers th { text-align: left; font-weight: normal; color: #555; }
+table.numbers th { text-align: left; font-weight: normal; color: #555; white-space: nowrap; }
 table.columns th, table.columns td { text-align: right; font-variant-numeric: tabular-nums; }
 svg { max-width: 100%; height: auto; }
 summary { cursor: pointer; }
