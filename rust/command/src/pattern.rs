@@ -23,11 +23,9 @@ impl Pattern {
 
     /// The pattern that operands give: as words, or as a file of words.
     pub fn given(block: &Block, operands: &[OsString]) -> Result<Self, Failure> {
-        let words: Vec<&str> = operands
-            .iter()
-            .flat_map(|operand| operand.to_str().unwrap_or_default().split_whitespace())
-            .collect();
-        let bytes: Result<Vec<u8>, String> = words.into_iter().map(byte).collect();
+        let joined = operands.join(" ".as_ref());
+        let words = joined.to_string_lossy();
+        let bytes: Result<Vec<u8>, String> = words.split_whitespace().map(byte).collect();
         match (bytes, operands) {
             (Ok(bytes), _) => Pattern::of_all_inputs(block, bytes).map_err(Failure::usage),
             (_, [path]) if path == "-" || Path::new(path).exists() => Pattern::load(block, path),

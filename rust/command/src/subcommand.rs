@@ -170,7 +170,8 @@ fn bench(arguments: &Arguments) -> Result<(), Failure> {
     let path = written_file(arguments, &BLOCK_FILE)?;
     let block = Block::of_text(operand(arguments, "TEXT")?, cells)?;
     files::write(path, &block.file)?;
-    let (name, size, path) = (&block.name, block.size(), path.display());
+    let (name, size) = (&block.name, block.size());
+    let path = files::shown(path.as_os_str());
     output::print(&format!("{name}: {size}, written to {path}\n"))
 }
 
@@ -237,7 +238,7 @@ fn report(arguments: &Arguments) -> Result<(), Failure> {
     let searched = evaluation::search(&block, &setting)?;
     let page = report::page(&block, &setting, &searched, &ceiling);
     files::write(path, page)?;
-    let (name, path) = (&block.name, path.display());
+    let (name, path) = (&block.name, files::shown(path.as_os_str()));
     let bounds = summary::bounds(&searched.found);
     output::print(&format!("{name}: {bounds}\nThe page is {path}.\n"))
 }

@@ -1,6 +1,8 @@
 //! Wrong usage: a message on standard error, status 2, nothing on standard output.
 
+use std::ffi::{OsStr, OsString};
 use std::fs::{self, File};
+use std::os::unix::ffi::OsStrExt;
 use std::path::Path;
 
 use crate::run::{command, file, printed, root, run, run_on, scratch, text, Ended};
@@ -277,6 +279,31 @@ fn operands_in_other_forms() {
     let ended = run_on(&block, &["search", "-"]);
     let expected = printed(&["search", BLOCK]).replace(BLOCK, "standard input");
     assert_eq!((ended.status, ended.output), (0, expected));
+}
+
+/// Names of files need not be text.
+#[test]
+fn names_that_are_no_text() {
+    let name = |ending: &str| {
+        let mut name = OsString::from(scratch("name"));
+        name.push(OsStr::from_bytes(b"\xff"));
+        name.push(ending);
+        name
+    };
+    let (block, pattern, picture) = (name(".blk"), name(".txt"), name(".svg"));
+    fs::copy(root().join(BLOCK), &block).expect("a copy");
+    fs::write(&pattern, "lh lh").expect("written");
+    let mut option = OsString::from("--svg=");
+    option.push(&picture);
+    let ended = command(&["simulate"])
+        .args([&block, &pattern, &option])
+        .output();
+    let ended = ended.expect("the command starts");
+    assert_eq!(
+        (ended.status.code(), &ended.stderr[..]),
+        (Some(0), &b""[..])
+    );
+    assert!(Path::new(&picture).is_file());
 }
 
 /// Words after `--` are operands.
