@@ -8,33 +8,19 @@ use std::ffi::OsStr;
 
 use zimgurav::{LIST_BYTES, LIST_ROW_BYTES};
 
-use crate::failure::Failure;
+use crate::failure::{Failure, RANGES};
 use crate::files;
 use crate::output;
 use crate::record::KINDS;
 
-/// A field of a line after its kind.
-struct Field {
-    name: &'static str,
-    /// The numbers that the library takes.
-    range: &'static str,
-    /// The most that a row of the list has room for.
-    room: u16,
-}
-
-impl Field {
-    const fn new(name: &'static str, range: &'static str, room: u16) -> Self {
-        Field { name, range, room }
-    }
-}
-
-const FIELDS: [Field; 6] = [
-    Field::new("contact", "0 to 15", u8::MAX as u16),
-    Field::new("delay", "1 to 63", u8::MAX as u16),
-    Field::new("rise", "1 to 127", u8::MAX as u16),
-    Field::new("fall", "1 to 127", u8::MAX as u16),
-    Field::new("peak lh", "0 to 65535", u16::MAX),
-    Field::new("peak hl", "0 to 65535", u16::MAX),
+/// The fields of a line after its kind, and the most that a row of the list has room for.
+const FIELDS: [(&str, u16); 6] = [
+    ("contact", u8::MAX as u16),
+    ("delay", u8::MAX as u16),
+    ("rise", u8::MAX as u16),
+    ("fall", u8::MAX as u16),
+    ("peak lh", u16::MAX),
+    ("peak hl", u16::MAX),
 ];
 
 /// A row of the list, and the line that gives it.
@@ -93,10 +79,9 @@ fn row(line: &str) -> Result<(usize, [u8; LIST_ROW_BYTES]), String> {
         return Err("a kind has contact, delay, rise, fall, peak lh and peak hl".to_string());
     }
     let mut numbers = [0; FIELDS.len()];
-    for ((number, word), field) in numbers.iter_mut().zip(fields).zip(FIELDS) {
-        let Field { name, range, room } = field;
+    for ((number, word), (name, room)) in numbers.iter_mut().zip(fields).zip(FIELDS) {
         let read = word.parse().ok().filter(|number| *number <= room);
-        *number = read.ok_or_else(|| format!("{name} {word} is not {range}"))?;
+        *number = read.ok_or_else(|| format!("a {name} is not in its range: {RANGES}"))?;
     }
     let [contact, delay, rise, fall, peak_lh, peak_hl] = numbers.map(u16::to_le_bytes);
     let bytes = [

@@ -4,6 +4,10 @@ use std::fmt::Display;
 
 use zimgurav::{refused, Refusal};
 
+/// The ranges of the fields of a record, or of a line of a cell list.
+pub const RANGES: &str = "a contact is 0 to 15, a delay 1 to 63, rise and fall are 1 to 127, \
+                          a peak is 0 to 65,535, an input's set is 1 to 15";
+
 /// What is said on standard error, and what kind of failure it is.
 #[derive(Debug)]
 pub struct Failure {
@@ -80,9 +84,7 @@ fn indented(message: &str) -> String {
 fn rule(number: u64) -> Option<&'static str> {
     match number {
         refused::PIN_COUNT => Some("a NOT or BUF has 1 pin, any other gate 2 to 4"),
-        refused::RANGE => Some(
-            "a contact is 0 to 15, a delay 1 to 63, rise and fall are 1 to 127, an input's set is 1 to 15",
-        ),
+        refused::RANGE => Some(RANGES),
         refused::LINE => Some(
             "the forms are INPUT(name), OUTPUT(name) and name = KIND(name, ...), \
              and a name is 1 to 16 letters or digits",

@@ -50,10 +50,12 @@ pub fn lines(bytes: &[u8]) -> Vec<(usize, String)> {
     let text = String::from_utf8_lossy(bytes);
     let text = text.strip_prefix('\u{feff}').unwrap_or(&text);
     let numbered = text.lines().zip(1..).map(|(line, number)| {
-        let said = line.split('#').next().unwrap_or_default();
-        (number, said.trim().to_string())
+        let content = line.split('#').next().unwrap_or_default();
+        (number, content.trim().to_string())
     });
-    numbered.filter(|(_, said)| !said.is_empty()).collect()
+    numbered
+        .filter(|(_, content)| !content.is_empty())
+        .collect()
 }
 
 /// Writes a file.

@@ -1,4 +1,4 @@
-//! Standard output.
+//! What is printed, on standard output and in messages.
 
 use std::io::{self, ErrorKind, Write};
 

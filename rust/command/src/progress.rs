@@ -1,4 +1,4 @@
-//! A sign of life while a call takes long.
+//! How long a call has run, shown while it runs.
 
 use std::io::{self, IsTerminal, Write};
 use std::sync::mpsc::{self, RecvTimeoutError};
@@ -38,7 +38,7 @@ fn shown_on<Answer>(
                 let _ = write!(terminal, "\r\x1b[K");
             }
         };
-        // Where no thread can be had, the call is made without a sign of life.
+        // Where no thread can be had, the call is made, and nothing is shown.
         let _ = thread::Builder::new().spawn_scoped(scope, showing);
         let answer = call();
         drop(ended);
@@ -73,7 +73,7 @@ mod tests {
         let pause = Duration::from_millis(1);
         let answer = shown_on(Terminal(sender), pause, "searching", || {
             while !shown.contains(" s") {
-                shown += &written.recv().expect("a sign of life");
+                shown += &written.recv().expect("the time is shown");
             }
             7
         });

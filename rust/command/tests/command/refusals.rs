@@ -9,8 +9,8 @@ use crate::run::{file, run, run_on, scratch, text, Ended};
 const CELLS: &str = "examples/cells.txt";
 
 /// What is said of the ranges.
-const RANGES: &str =
-    "a contact is 0 to 15, a delay 1 to 63, rise and fall are 1 to 127, an input's set is 1 to 15";
+pub const RANGES: &str = "a contact is 0 to 15, a delay 1 to 63, rise and fall are 1 to 127, \
+                          a peak is 0 to 65,535, an input's set is 1 to 15";
 
 /// What is said of the forms of a line.
 const FORMS: &str = "the forms are INPUT(name), OUTPUT(name) and name = KIND(name, ...), \

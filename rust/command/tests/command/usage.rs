@@ -5,6 +5,7 @@ use std::fs::{self, File};
 use std::os::unix::ffi::OsStrExt;
 use std::path::Path;
 
+use crate::refusals::RANGES;
 use crate::run::{command, file, printed, root, run, run_on, scratch, text, Ended};
 
 /// The command says just this on standard error.
@@ -198,12 +199,12 @@ fn cell_lists() {
     wrong_list(
         "OR",
         "OR 0 256 1 1 1 1",
-        "delay 256 is not 1 to 63\n  line 8: OR 0 256 1 1 1 1",
+        &format!("a delay is not in its range: {RANGES}\n  line 8: OR 0 256 1 1 1 1"),
     );
     wrong_list(
         "OR",
         "OR 0 1 1 1 1 65536",
-        "peak hl 65536 is not 0 to 65535\n  line 8: OR 0 1 1 1 1 65536",
+        &format!("a peak hl is not in its range: {RANGES}\n  line 8: OR 0 1 1 1 1 65536"),
     );
 }
 
