@@ -1,34 +1,65 @@
 //! What stands after the name of a subcommand: operands and options.
 
 use std::ffi::{OsStr, OsString};
-use std::fs;
+use std::io;
 use std::os::unix::ffi::OsStrExt;
 use std::path::Path;
 
 use crate::failure::Failure;
-use crate::number::grouped;
+use crate::identity::Identity;
+use crate::output_file::OutputFile;
 
 /// An option that a subcommand takes.
 pub struct CommandOption {
     /// As it is written, `--budget`.
     pub name: &'static str,
-    /// What stands after it, `N`; nothing for an option that is given or not.
-    pub value: Option<&'static str>,
+    /// What stands after it; nothing for an option that is given or not.
+    pub value: Option<Value>,
     /// The value that it has where it is not given.
     pub default: Option<&'static str>,
     /// What it does, for the help.
     pub meaning: &'static str,
 }
 
+/// What stands after an option. The library judges numbers; the command says which are meant where a word is none.
+pub enum Value {
+    /// A whole number, with the least and the most that the library takes.
+    Number(u64, u64),
+    /// A decimal number of ohms.
+    Ohms,
+    /// A file that is read, by the word that the help has for it.
+    FileRead(&'static str),
+    /// A file that is written, by the word that the help has for it.
+    FileWritten(&'static str),
+}
+
+impl CommandOption {
+    /// The option as the help writes it, `--budget N`.
+    pub fn written(&self) -> String {
+        let value = match self.value {
+            None => return self.name.to_string(),
+            Some(Value::Number(..)) => "N",
+            Some(Value::Ohms) => "R",
+            Some(Value::FileRead(word) | Value::FileWritten(word)) => word,
+        };
+        format!("{} {value}", self.name)
+    }
+
+    /// Whether a word that begins with `-` and a digit can only be meant as the option's value.
+    fn takes_number(&self) -> bool {
+        matches!(self.value, Some(Value::Number(..) | Value::Ohms))
+    }
+}
+
 /// The operands and options that were given.
 pub struct Arguments {
     pub operands: Vec<OsString>,
-    options: Vec<(&'static str, OsString)>,
+    options: Vec<(&'static CommandOption, OsString)>,
 }
 
 impl Arguments {
     /// Takes the arguments apart, by the options that there are. `--` ends the options.
-    pub fn parse(words: &[OsString], options: &[&CommandOption]) -> Result<Self, Failure> {
+    pub fn parse(words: &[OsString], options: &[&'static CommandOption]) -> Result<Self, Failure> {
         let mut words = words.iter().cloned();
         let mut arguments = Arguments {
             operands: Vec::new(),
@@ -61,7 +92,7 @@ impl Arguments {
         &mut self,
         word: &OsStr,
         rest: &mut impl Iterator<Item = OsString>,
-        options: &[&CommandOption],
+        options: &[&'static CommandOption],
     ) -> Result<(), Failure> {
         let (name, value) = split_at_equals(word);
         let Some(option) = options.iter().find(|option| name == option.name) else {
@@ -72,19 +103,22 @@ impl Arguments {
         if self.has(name) {
             return Err(Failure::usage(format_args!("{name} is given twice")));
         }
-        let value = match (option.value, value) {
+        let value = match (&option.value, value) {
             (None, None) => OsString::new(),
             (None, Some(_)) => return Err(Failure::usage(format_args!("{name} takes no value"))),
-            (Some(what), value) => {
-                let next = || rest.next().filter(|word| !is_option(word));
+            (Some(_), value) => {
+                let is_value = |word: &OsString| {
+                    !is_option(word) || option.takes_number() && is_negative(word)
+                };
+                let next = || rest.next().filter(is_value);
                 let value = value.map(OsStr::to_os_string).or_else(next);
                 value.filter(|value| !value.is_empty()).ok_or_else(|| {
-                    let message = format_args!("{name} takes a value: {name} {what}");
-                    Failure::usage(message)
+                    let written = option.written();
+                    Failure::usage(format_args!("{name} takes a value: {written}"))
                 })?
             }
         };
-        self.options.push((name, value));
+        self.options.push((option, value));
         Ok(())
     }
 
@@ -96,12 +130,13 @@ impl Arguments {
     /// The value of an option that is given.
     pub fn value(&self, name: &str) -> Option<&OsStr> {
         let mut options = self.options.iter();
-        let (_, value) = options.find(|(given, _)| *given == name)?;
+        let (_, value) = options.find(|(given, _)| given.name == name)?;
         Some(value)
     }
 
-    /// The file that an option names for the command to write: none that another word names.
-    pub fn written_file(&self, option: &CommandOption) -> Result<Option<&Path>, Failure> {
+    /// The file that an option names for the command to write: none that another word names, whatever the name, and
+    /// none that a standard stream comes from or goes to.
+    pub fn written_file(&self, option: &CommandOption) -> Result<Option<OutputFile>, Failure> {
         let name = option.name;
         let Some(path) = self.value(name) else {
             return Ok(None);
@@ -111,19 +146,40 @@ impl Arguments {
                 "{name} takes the name of a file; - is standard input"
             )));
         }
-        let (path, shown) = (Path::new(path), path.display());
-        let same = self.named().filter(|other| is_same(path, Path::new(other)));
-        if same.count() > 1 {
+        let file = OutputFile::at(path)?;
+        if let Some(other) = self.same_file(option, Path::new(path)) {
+            let path = path.display();
             return Err(Failure::usage(format_args!(
-                "{name} would write {shown}, which is given for something else too"
+                "{name} {path} is the same file as {other}"
             )));
         }
-        let folder = path.parent().unwrap_or(path);
-        if !folder.as_os_str().is_empty() && !folder.is_dir() {
-            let message = format_args!("there is no folder {}", folder.display());
-            return Err(Failure::file(&shown.to_string(), message));
-        }
-        Ok(Some(path))
+        Ok(Some(file))
+    }
+
+    /// What else is the file that an option names. Of a file that does not exist yet nothing is read: a word of a
+    /// pattern is an operand too.
+    fn same_file(&self, option: &CommandOption, path: &Path) -> Option<String> {
+        let file = Identity::of(path).ok()?;
+        let is_same = |word: &OsStr| Identity::of(word.as_ref()).is_ok_and(|other| other == file);
+        let mut operands = self.operands.iter().filter(|_| file.exists());
+        let mut options = self.options.iter().filter(|(other, _)| match other.value {
+            Some(Value::FileWritten(_)) => other.name != option.name,
+            Some(Value::FileRead(_)) => file.exists(),
+            _ => false,
+        });
+        let streams = [
+            (Identity::of_stream(io::stdin()), "standard input"),
+            (Identity::of_stream(io::stdout()), "standard output"),
+            (Identity::of_stream(io::stderr()), "standard error"),
+        ];
+        let mut streams = streams.iter();
+        let operand = operands.find(|word| is_same(word));
+        let option = options.find(|(_, word)| is_same(word));
+        let stream = streams.find(|(stream, _)| stream.as_ref() == Some(&file));
+        operand
+            .map(|word| word.display().to_string())
+            .or_else(|| option.map(|(other, word)| format!("{} {}", other.name, word.display())))
+            .or_else(|| stream.map(|(_, name)| name.to_string()))
     }
 
     /// The number that an option has, given or by default.
@@ -133,9 +189,12 @@ impl Arguments {
         let number = value.to_str().and_then(|digits| digits.parse().ok());
         number.ok_or_else(|| {
             let (name, value) = (option.name, value.display());
-            let most = grouped(u64::MAX);
-            let message = format_args!("{name} takes a whole number, 0 to {most}, and not {value}");
-            Failure::usage(message)
+            let Some(Value::Number(least, most)) = option.value else {
+                unreachable!("{name} is asked for a number");
+            };
+            Failure::usage(format_args!(
+                "{name} takes a whole number, {least} to {most}, and not {value}"
+            ))
         })
     }
 }
@@ -145,10 +204,9 @@ fn is_option(word: &OsStr) -> bool {
     word != "-" && word.as_bytes().starts_with(b"-")
 }
 
-/// Whether two paths are of one file.
-fn is_same(path: &Path, other: &Path) -> bool {
-    let canonical = |path: &Path| fs::canonicalize(path).ok();
-    path == other || canonical(path).is_some_and(|path| canonical(other) == Some(path))
+/// Whether a word begins as a negative number does.
+fn is_negative(word: &OsStr) -> bool {
+    matches!(word.as_bytes(), [b'-', b'0'..=b'9' | b'.', ..])
 }
 
 /// What stands before the first `=`, and what stands after it.

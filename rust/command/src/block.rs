@@ -26,23 +26,27 @@ impl Block {
     /// Reads a block file, or a bench text with a cell list: of a name that ends in `.bench`, or of
     /// standard input where a list is given.
     pub fn load(path: &OsStr, cells: Option<&OsStr>) -> Result<Self, Failure> {
-        let is_text = ends_in_bench(path);
+        let is_text = ends_in_bench(path) || path == "-" && cells.is_some();
         match cells {
-            Some(cells) if is_text || path == "-" => Block::of_text(path, cells),
-            None if !is_text => Block::of_file(path),
+            _ if is_text => Block::of_text(path, cells),
+            None => Block::of_file(path),
             Some(_) => Err(Failure::usage(
                 "--cells is for a bench text, and the name of one ends in .bench",
-            )),
-            None => Err(Failure::usage(
-                "a bench text needs a cell list, --cells LIST",
             )),
         }
     }
 
     /// Turns a bench text into a block, by a cell list.
-    pub fn of_text(path: &OsStr, cells: &OsStr) -> Result<Self, Failure> {
-        let cells = Cells::load(cells)?;
+    pub fn of_text(path: &OsStr, cells: Option<&OsStr>) -> Result<Self, Failure> {
+        let Some(cells) = cells else {
+            // A wrong name is told first; standard input is not waited for.
+            if path != "-" {
+                files::read(path)?;
+            }
+            return Err(Cells::missing());
+        };
         let (name, bytes) = (files::shown(path), files::read(path)?);
+        let cells = Cells::load(cells)?;
         let text = BenchText {
             name: &name,
             bytes: &bytes,
@@ -101,6 +105,12 @@ impl Block {
     /// A net by its number and, of a bench text, its name.
     pub fn net(&self, net: usize) -> String {
         format!("net {}", self.numbered(net))
+    }
+
+    /// The names of the inputs, of a bench text; else none.
+    pub fn input_names(&self) -> &[String] {
+        let inputs = self.counts.inputs as usize;
+        self.names.get(..inputs).unwrap_or_default()
     }
 
     fn numbered(&self, net: usize) -> String {

@@ -58,6 +58,15 @@ impl Cells {
         Ok(Cells { name, rows })
     }
 
+    /// No list was given.
+    pub fn missing() -> Failure {
+        Failure::usage(
+            "a bench text needs a cell list, --cells LIST: a text with a line for each kind of gate, \
+             which has its contact, delay, rise, fall and peaks\n\
+             examples/cells.txt in the repository is one, and 'zimgurav help bench' says more",
+        )
+    }
+
     /// The list as the library takes it.
     pub fn list(&self) -> [u8; LIST_BYTES] {
         array::from_fn(|at| self.rows[at / LIST_ROW_BYTES].bytes[at % LIST_ROW_BYTES])

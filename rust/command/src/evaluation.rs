@@ -23,7 +23,7 @@ pub struct Setting {
 }
 
 impl Setting {
-    /// The values of the options, by default those of the program `estimate`.
+    /// The values of the options. Their defaults are those of the program `estimate`, but for the budget.
     pub fn given(arguments: &Arguments) -> Result<Self, Failure> {
         Ok(Setting {
             hop_limit: arguments.number(&HOP_LIMIT)?,

@@ -1,5 +1,6 @@
 //! Why the command has no answer.
 
+use std::ffi::OsStr;
 use std::fmt::Display;
 
 use zimgurav::{refused, Refusal};
@@ -49,6 +50,12 @@ impl Failure {
             message: message.to_string(),
             kind: Kind::Usage,
         }
+    }
+
+    /// An operand that nothing takes.
+    pub fn extra(operand: &OsStr) -> Self {
+        let operand = operand.display();
+        Failure::usage(format_args!("{operand} is an operand too many"))
     }
 
     /// What is wrong with a file, by its name.

@@ -1,9 +1,8 @@
-//! The files that the command reads and writes.
+//! The files that the command reads.
 
 use std::ffi::OsStr;
-use std::fs::{self, File};
-use std::io::{self, Read};
-use std::path::Path;
+use std::fs::File;
+use std::io::{self, ErrorKind, Read};
 
 use crate::failure::Failure;
 use crate::output;
@@ -29,12 +28,28 @@ pub fn read(path: &OsStr) -> Result<Vec<u8>, Failure> {
         File::open(path).and_then(bytes)
     };
     let name = shown(path);
-    let bytes = read.map_err(|error| Failure::file(&name, error))?;
+    let bytes = read.map_err(|error| Failure::file(&name, fault(error)))?;
     if bytes.len() as u64 > MOST_BYTES {
         let message = format_args!("longer than {} MiB", MOST_BYTES >> 20);
         return Err(Failure::file(&name, message));
     }
     Ok(bytes)
+}
+
+/// What is wrong with a file, in words alone.
+pub fn fault(error: io::Error) -> String {
+    match error.kind() {
+        ErrorKind::NotFound => "no such file".to_string(),
+        ErrorKind::IsADirectory => "it is a folder".to_string(),
+        _ => {
+            let words = error.to_string();
+            words
+                .split(" (os error")
+                .next()
+                .unwrap_or_default()
+                .to_string()
+        }
+    }
 }
 
 /// All bytes, or one more than a file may have.
@@ -56,9 +71,4 @@ pub fn lines(bytes: &[u8]) -> Vec<(usize, String)> {
     numbered
         .filter(|(_, content)| !content.is_empty())
         .collect()
-}
-
-/// Writes a file.
-pub fn write(path: &Path, contents: impl AsRef<[u8]>) -> Result<(), Failure> {
-    fs::write(path, contents).map_err(|error| Failure::file(&path.display().to_string(), error))
 }

@@ -15,7 +15,7 @@ zimgurav: proved ceilings on the supply current of a block of gates
 usage: zimgurav SUBCOMMAND ...
 
 {lines}
-'zimgurav SUBCOMMAND --help' says more of each, 'zimgurav --version' the version.
+'zimgurav help SUBCOMMAND' says more of each, 'zimgurav --version' what build this is.
 The exit status is 0 for an answer, 1 for a refusal, and 2 for wrong usage or a file
 that cannot be read, understood or written.
 "
@@ -33,7 +33,7 @@ pub fn of(subcommand: &Subcommand) -> String {
         ..
     } = subcommand;
     let options = options.iter().map(|option| {
-        let written = format!("{} {}", option.name, option.value.unwrap_or_default());
+        let written = option.written();
         let default = option.default.map(|value| format!(" (default {value})"));
         let (meaning, default) = (option.meaning, default.unwrap_or_default());
         format!("  {written:<16} {meaning}{default}\n")

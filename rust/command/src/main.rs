@@ -12,9 +12,12 @@ mod excitation;
 mod failure;
 mod files;
 mod help;
+mod identity;
+mod interrupt;
 mod number;
 mod options;
 mod output;
+mod output_file;
 mod pattern;
 mod picture;
 mod progress;
@@ -30,7 +33,7 @@ mod vcd;
 mod xml;
 
 use std::env;
-use std::ffi::OsString;
+use std::ffi::{OsStr, OsString};
 use std::io::{self, Write};
 use std::process::ExitCode;
 
@@ -60,21 +63,43 @@ fn run(arguments: Vec<OsString>) -> Result<(), Failure> {
         let message = format!("a subcommand is missing\n\n{}", help::whole());
         return Err(Failure::usage(message));
     };
-    if is_help(name) || name == "help" {
-        return output::print(&help::whole());
+    match name.to_str() {
+        Some("--help" | "-h") => output::print(&help::whole()),
+        Some("--version" | "-V") => output::print(&version()),
+        Some("help") => help(rest),
+        _ => run_subcommand(known(name)?, rest),
     }
-    if name == "--version" {
-        let version = format!("zimgurav, version {} of the calls\n", zimgurav::VERSION);
-        return output::print(&version);
+}
+
+/// The release, the commit that it was built from, which `./install` hands over, and the version of the calls.
+fn version() -> String {
+    let commit = option_env!("ZIMGURAV_COMMIT").map(|commit| format!("commit {commit}"));
+    format!(
+        "zimgurav {}, {}, version {} of the calls\n",
+        env!("CARGO_PKG_VERSION"),
+        commit.unwrap_or("of no known commit".to_string()),
+        zimgurav::VERSION
+    )
+}
+
+/// Prints the help of the whole command, or of the subcommand that is named.
+fn help(names: &[OsString]) -> Result<(), Failure> {
+    match names {
+        [] => output::print(&help::whole()),
+        [name] => output::print(&help::of(known(name)?)),
+        [_, extra, ..] => Err(Failure::extra(extra)),
     }
+}
+
+/// The subcommand of a name.
+fn known(name: &OsStr) -> Result<&'static Subcommand, Failure> {
     let subcommand = SUBCOMMANDS.iter().find(|known| name == known.name);
-    let subcommand = subcommand.ok_or_else(|| {
+    subcommand.ok_or_else(|| {
         let name = name.display();
         Failure::usage(format_args!(
             "there is no subcommand {name}; 'zimgurav --help' lists them"
         ))
-    })?;
-    run_subcommand(subcommand, rest)
+    })
 }
 
 fn is_help(argument: &OsString) -> bool {

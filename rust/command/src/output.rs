@@ -3,6 +3,7 @@
 use std::io::{self, ErrorKind, Write};
 
 use crate::failure::Failure;
+use crate::files;
 
 /// The most characters of a line or a word of a file that are shown.
 const MOST_SHOWN: usize = 160;
@@ -33,7 +34,7 @@ pub fn print(text: &str) -> Result<(), Failure> {
         .and_then(|()| output.flush())
     {
         Err(error) if error.kind() != ErrorKind::BrokenPipe => {
-            Err(Failure::file("standard output", error))
+            Err(Failure::file("standard output", files::fault(error)))
         }
         _ => Ok(()),
     }

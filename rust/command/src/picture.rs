@@ -4,7 +4,7 @@ use zimgurav::Word;
 
 use crate::block::Block;
 use crate::evaluation::{Drawn, Searched, Setting};
-use crate::number::grouped;
+use crate::number::volts;
 use crate::sheet::Sheet;
 use crate::summary;
 
@@ -30,7 +30,7 @@ impl<'a> Picture<'a> {
     pub fn of_envelope(block: &Block, setting: &Setting, ceiling: &'a Drawn) -> Self {
         Picture {
             title: format!("Envelope of {}", block.name),
-            caption: format!("No pattern drops more than {} nV.", grouped(ceiling.drop)),
+            caption: format!("No pattern drops more than {}.", volts(ceiling.drop)),
             setting: summary::envelope_setting(setting),
             contacts: block.contacts(),
             ceiling: Some(&ceiling.sheet),
@@ -42,7 +42,7 @@ impl<'a> Picture<'a> {
     pub fn of_simulation(block: &Block, setting: &Setting, simulated: &'a Drawn) -> Self {
         Picture {
             title: format!("Simulation of {}", block.name),
-            caption: format!("The pattern drops {} nV.", grouped(simulated.drop)),
+            caption: format!("The pattern drops {}.", volts(simulated.drop)),
             setting: setting.table.words.clone(),
             contacts: block.contacts(),
             ceiling: None,
@@ -55,7 +55,7 @@ impl<'a> Picture<'a> {
     pub fn of_search(block: &Block, setting: &Setting, searched: &'a Searched) -> Self {
         Picture {
             title: format!("Search of {}", block.name),
-            caption: summary::bounds(&searched.found),
+            caption: summary::bounds(&searched.found, volts),
             setting: summary::search_setting(setting),
             contacts: block.contacts(),
             ceiling: Some(&searched.ceiling),
@@ -64,10 +64,19 @@ impl<'a> Picture<'a> {
         }
     }
 
+    /// The sheets that are shown, by their names.
+    pub fn sheets(&self) -> Vec<(&'static str, &'a Sheet)> {
+        let named = [("ceiling", self.ceiling), ("pattern", self.simulated)];
+        let named = named.into_iter();
+        named
+            .filter_map(|(name, sheet)| Some((name, sheet?)))
+            .collect()
+    }
+
     /// The greatest current that is shown.
     pub fn greatest(&self) -> Word {
-        let sheets = self.ceiling.into_iter().chain(self.simulated);
-        let rows = sheets.flat_map(|sheet| {
+        let sheets = self.sheets().into_iter();
+        let rows = sheets.flat_map(|(_, sheet)| {
             let contacts = self.contacts.iter();
             contacts.map(|contact| sheet.greatest(*contact).current)
         });

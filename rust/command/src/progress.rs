@@ -5,14 +5,18 @@ use std::sync::mpsc::{self, RecvTimeoutError};
 use std::thread;
 use std::time::{Duration, Instant};
 
-/// Makes a call. Where standard error is a terminal, a line there says, second by second, what it does and how long it
-/// has run, and is gone when the call returns.
+use crate::interrupt;
+
+/// Makes a call that may take long, and that an interrupt ends. Where standard error is a terminal, a line there says,
+/// second by second, what it does and how long it has run, and is gone when the call returns.
 pub fn watched<Answer>(what: &str, call: impl FnOnce() -> Answer) -> Answer {
-    if io::stderr().is_terminal() {
-        shown_on(io::stderr(), Duration::from_secs(1), what, call)
-    } else {
-        call()
-    }
+    interrupt::during_a_call(|| {
+        if io::stderr().is_terminal() {
+            shown_on(io::stderr(), Duration::from_secs(1), what, call)
+        } else {
+            call()
+        }
+    })
 }
 
 /// Makes a call, and shows on a terminal, after each interval, how long it has run.

@@ -44,7 +44,7 @@ pub fn page(block: &Block, setting: &Setting, searched: &Searched, ceiling: &Dra
     }
     let [of_search, of_envelope] = pictures.map(|picture| svg::draw(&picture));
     let sections = [
-        search_section(setting, searched) + &of_search,
+        search_section(block, setting, searched) + &of_search,
         currents_section(block, searched, ceiling),
         section(
             "Envelope",
@@ -65,8 +65,8 @@ pub fn page(block: &Block, setting: &Setting, searched: &Searched, ceiling: &Dra
     )
 }
 
-fn search_section(setting: &Setting, searched: &Searched) -> String {
-    let numbers = numbers(&summary::of_search(setting, searched));
+fn search_section(block: &Block, setting: &Setting, searched: &Searched) -> String {
+    let numbers = numbers(&summary::of_search(block, setting, searched));
     let remark = "<p>For the drop, use U; for the currents, the sheet. The sheet takes its words from different \
                   cases, so that its own drop may be above U.</p>\n";
     section("Search", &(numbers + remark))

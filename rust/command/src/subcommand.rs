@@ -1,18 +1,19 @@
 //! The subcommands: what each takes, and what it does.
 
 use std::ffi::{OsStr, OsString};
-use std::path::Path;
 
 use crate::arguments::{Arguments, CommandOption};
 use crate::block::Block;
 use crate::evaluation::{self, Setting};
 use crate::failure::Failure;
+use crate::number::nanovolts;
 use crate::options::*;
+use crate::output_file::OutputFile;
 use crate::pattern::Pattern;
 use crate::picture::Picture;
 use crate::sheet::Sheet;
 use crate::summary::Numbers;
-use crate::{csv, files, output, report, selftest, summary, svg, vcd};
+use crate::{csv, output, report, selftest, summary, svg, vcd};
 
 /// One of the things that the command does.
 pub struct Subcommand {
@@ -31,7 +32,7 @@ pub struct Subcommand {
 
 const OF_BLOCKS: &str = "\
 BLOCK is a block file, or a bench text with --cells LIST: a file whose name ends
-in .bench. - is standard input, a bench text where --cells is arguments.";
+in .bench. - is standard input, a bench text where --cells is given.";
 
 const OF_PATTERNS: &str = "\
 PATTERN is a word for each input, l, h, hl or lh, or a file of such words, as search
@@ -130,25 +131,19 @@ fn operand<'a>(arguments: &'a Arguments, name: &str) -> Result<&'a OsStr, Failur
 fn no_more(rest: &[OsString]) -> Result<(), Failure> {
     match rest {
         [] => Ok(()),
-        [extra, ..] => {
-            let extra = extra.display();
-            Err(Failure::usage(format_args!(
-                "{extra} is an operand too many"
-            )))
-        }
+        [extra, ..] => Err(Failure::extra(extra)),
     }
 }
 
 /// An option that may not be left out was.
 fn missing(option: &CommandOption) -> Failure {
-    let value = option.value.unwrap_or_default();
-    Failure::usage(format_args!("{} {value} is missing", option.name))
+    Failure::usage(format_args!("{} is missing", option.written()))
 }
 
 /// The file that an option which may not be left out names for the command to write.
-fn written_file<'a>(arguments: &'a Arguments, option: &CommandOption) -> Result<&'a Path, Failure> {
-    let path = arguments.written_file(option)?;
-    path.ok_or_else(|| missing(option))
+fn written_file(arguments: &Arguments, option: &CommandOption) -> Result<OutputFile, Failure> {
+    let file = arguments.written_file(option)?;
+    file.ok_or_else(|| missing(option))
 }
 
 fn block(arguments: &Arguments, path: &OsStr) -> Result<Block, Failure> {
@@ -166,13 +161,12 @@ fn read(arguments: &Arguments) -> Result<(), Failure> {
 }
 
 fn bench(arguments: &Arguments) -> Result<(), Failure> {
-    let cells = arguments.value(CELLS.name).ok_or_else(|| missing(&CELLS))?;
-    let path = written_file(arguments, &BLOCK_FILE)?;
-    let block = Block::of_text(operand(arguments, "TEXT")?, cells)?;
-    files::write(path, &block.file)?;
-    let (name, size) = (&block.name, block.size());
-    let path = files::shown(path.as_os_str());
-    output::print(&format!("{name}: {size}, written to {path}\n"))
+    let file = written_file(arguments, &BLOCK_FILE)?;
+    let text = operand(arguments, "TEXT")?;
+    let block = Block::of_text(text, arguments.value(CELLS.name))?;
+    file.write(&block.file)?;
+    let (name, size, file) = (&block.name, block.size(), &file.name);
+    output::print(&format!("{name}: {size}, written to {file}\n"))
 }
 
 fn envelope(arguments: &Arguments) -> Result<(), Failure> {
@@ -202,7 +196,7 @@ fn simulate(arguments: &Arguments) -> Result<(), Failure> {
     print_answer(
         &block,
         &setting.table.words,
-        &summary::of_simulation(&pattern, &simulated),
+        &summary::of_simulation(&block, &pattern, &simulated),
         &[("greatest", &simulated.sheet)],
     )?;
     written.write(&Picture::of_simulation(&block, &setting, &simulated))
@@ -217,30 +211,30 @@ fn search(arguments: &Arguments) -> Result<(), Failure> {
     print_answer(
         &block,
         &summary::search_setting(&setting),
-        &summary::of_search(&setting, &searched),
+        &summary::of_search(&block, &setting, &searched),
         &[
             ("at most", &searched.ceiling),
             ("pattern", &searched.simulated.sheet),
         ],
     )?;
     let written = written.write(&Picture::of_search(&block, &setting, &searched));
-    if let Some(path) = pattern {
-        files::write(path, searched.pattern.file(&block))?;
+    if let Some(file) = pattern {
+        file.write(searched.pattern.file(&block))?;
     }
     written
 }
 
 fn report(arguments: &Arguments) -> Result<(), Failure> {
-    let path = written_file(arguments, &PAGE)?;
+    let file = written_file(arguments, &PAGE)?;
     let setting = Setting::given(arguments)?;
     let block = block(arguments, operand(arguments, "BLOCK")?)?;
     let ceiling = evaluation::envelope(&block, &setting)?;
     let searched = evaluation::search(&block, &setting)?;
     let page = report::page(&block, &setting, &searched, &ceiling);
-    files::write(path, page)?;
-    let (name, path) = (&block.name, files::shown(path.as_os_str()));
-    let bounds = summary::bounds(&searched.found);
-    output::print(&format!("{name}: {bounds}\nThe page is {path}.\n"))
+    file.write(page)?;
+    let (name, file) = (&block.name, &file.name);
+    let bounds = summary::bounds(&searched.found, nanovolts);
+    output::print(&format!("{name}: {bounds}\nThe page is {file}.\n"))
 }
 
 fn selftest(arguments: &Arguments) -> Result<(), Failure> {
@@ -263,14 +257,14 @@ fn print_answer(
 }
 
 /// The files that the options ask for.
-struct Written<'a> {
-    svg: Option<&'a Path>,
-    csv: Option<&'a Path>,
-    vcd: Option<&'a Path>,
+struct Written {
+    svg: Option<OutputFile>,
+    csv: Option<OutputFile>,
+    vcd: Option<OutputFile>,
 }
 
-impl<'a> Written<'a> {
-    fn given(arguments: &'a Arguments) -> Result<Self, Failure> {
+impl Written {
+    fn given(arguments: &Arguments) -> Result<Self, Failure> {
         Ok(Written {
             svg: arguments.written_file(&SVG)?,
             csv: arguments.written_file(&CSV)?,
@@ -278,21 +272,16 @@ impl<'a> Written<'a> {
         })
     }
 
-    /// Writes them, all that can be written. The comma-separated values are those of the ceiling, where there is one.
+    /// Writes them, all that can be written.
     fn write(&self, picture: &Picture) -> Result<(), Failure> {
-        let named = [("ceiling", picture.ceiling), ("pattern", picture.simulated)];
-        let sheets: Vec<(&str, &Sheet)> = named
-            .into_iter()
-            .filter_map(|(name, sheet)| Some((name, sheet?)))
-            .collect();
-        let first = sheets.first().map(|(_, sheet)| csv::written(sheet));
+        let sheets = picture.sheets();
         let files = [
-            (self.svg, svg::draw(picture)),
-            (self.csv, first.unwrap_or_default()),
-            (self.vcd, vcd::written(&picture.contacts, &sheets)),
+            (&self.svg, svg::draw(picture)),
+            (&self.csv, csv::written(&sheets)),
+            (&self.vcd, vcd::written(&picture.contacts, &sheets)),
         ];
         let written =
-            files.map(|(path, text)| path.map_or(Ok(()), |path| files::write(path, text)));
+            files.map(|(file, text)| file.as_ref().map_or(Ok(()), |file| file.write(text)));
         written.into_iter().collect()
     }
 }

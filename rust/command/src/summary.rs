@@ -8,7 +8,7 @@ use crate::block::Block;
 use crate::columns::Columns;
 use crate::evaluation::{Drawn, Searched, Setting};
 use crate::excitation;
-use crate::number::{counted, grouped, microamperes};
+use crate::number::{counted, grouped, microamperes, nanovolts};
 use crate::pattern::Pattern;
 use crate::record::KINDS;
 use crate::sheet::Sheet;
@@ -86,69 +86,79 @@ pub fn nets(block: &Block) -> Vec<String> {
 
 /// The values of an envelope's arguments.
 pub fn envelope_setting(setting: &Setting) -> String {
-    format!("hop limit {}; {}", setting.hop_limit, setting.table.words)
+    let hop_limit = counted(setting.hop_limit, "run");
+    format!("hop limit {hop_limit}; {}", setting.table.words)
 }
 
 /// The values of a search's arguments.
 pub fn search_setting(setting: &Setting) -> String {
     format!(
         "hop limit {}, ratio {}, budget {}; {}",
-        setting.hop_limit,
-        grouped(setting.ratio),
-        grouped(setting.budget),
+        counted(setting.hop_limit, "run"),
+        counted(setting.ratio, "thousandth"),
+        counted(setting.budget, "split"),
         setting.table.words
     )
 }
 
 /// What an envelope answers.
 pub fn of_envelope(ceiling: &Drawn) -> Numbers {
-    let drop = grouped(ceiling.drop);
+    let drop = nanovolts(ceiling.drop);
     vec![
-        ("drop", format!("{drop} nV: no pattern drops more")),
+        ("drop", format!("{drop}: no pattern drops more")),
         ("quiet tick", quiet_ceiling(ceiling.sheet.quiet)),
     ]
 }
 
 /// What a simulation answers.
-pub fn of_simulation(pattern: &Pattern, simulated: &Drawn) -> Numbers {
+pub fn of_simulation(block: &Block, pattern: &Pattern, simulated: &Drawn) -> Numbers {
     let quiet = simulated.sheet.quiet;
-    vec![
-        ("pattern", pattern.line()),
-        ("drop", format!("{} nV", grouped(simulated.drop))),
-        (
-            "quiet tick",
-            format!("{quiet}: the pattern draws no current after it"),
-        ),
-    ]
+    let mut numbers = of_pattern(block, pattern);
+    numbers.push(("drop", nanovolts(simulated.drop)));
+    numbers.push((
+        "quiet tick",
+        format!("{quiet}: the pattern draws no current after it"),
+    ));
+    numbers
+}
+
+/// A pattern, as a subcommand takes it and, where the inputs have names, by them.
+fn of_pattern(block: &Block, pattern: &Pattern) -> Numbers {
+    let names = block.input_names();
+    let named = names.iter().zip(pattern.words());
+    let named: Vec<String> = named.map(|(name, word)| format!("{name} {word}")).collect();
+    let mut numbers = vec![("pattern", pattern.line())];
+    if !named.is_empty() {
+        numbers.push(("by name", named.join(", ")));
+    }
+    numbers
 }
 
 /// What a search answers.
-pub fn of_search(setting: &Setting, searched: &Searched) -> Numbers {
+pub fn of_search(block: &Block, setting: &Setting, searched: &Searched) -> Numbers {
     let found = &searched.found;
-    let (upper, lower) = (grouped(found.upper), grouped(found.lower));
-    vec![
+    let (upper, lower) = (nanovolts(found.upper), nanovolts(found.lower));
+    let mut numbers = vec![
         ("outcome", outcome(found, setting)),
-        ("U", format!("{upper} nV: no pattern drops more")),
-        (
-            "L",
-            format!("{lower} nV: the worst pattern found drops this"),
-        ),
+        ("U", format!("{upper}: no pattern drops more")),
+        ("L", format!("{lower}: the worst pattern found drops this")),
         ("apart", apart(found)),
         ("splits", grouped(found.splits)),
         ("cases", grouped(found.cases)),
         ("quiet tick", quiet_ceiling(found.quiet)),
-        ("pattern", searched.pattern.line()),
-    ]
+    ];
+    numbers.extend(of_pattern(block, &searched.pattern));
+    numbers
 }
 
 fn quiet_ceiling(quiet: u64) -> String {
     format!("{quiet}: no pattern draws current after it")
 }
 
-/// What a search says of the drop, in a line.
-pub fn bounds(found: &Found) -> String {
-    let (upper, lower) = (grouped(found.upper), grouped(found.lower));
-    format!("No pattern drops more than U = {upper} nV; the worst one found drops L = {lower} nV.")
+/// What a search says of the drop, in a line with drops in such words.
+pub fn bounds(found: &Found, words: impl Fn(u64) -> String) -> String {
+    let (upper, lower) = (words(found.upper), words(found.lower));
+    format!("No pattern drops more than U = {upper}; the worst one found drops L = {lower}.")
 }
 
 /// How a search ended.
@@ -174,12 +184,12 @@ fn outcome(found: &Found, setting: &Setting) -> String {
 /// ended here.
 fn apart(found: &Found) -> String {
     let Found { upper, lower, .. } = *found;
-    let difference = grouped(upper - lower);
+    let difference = nanovolts(upper - lower);
     if upper == lower || lower == 0 {
-        return format!("{difference} nV");
+        return difference;
     }
     let quotient = thousandths((1_000 * upper).div_ceil(lower));
-    format!("{difference} nV: U is at most {quotient} times L")
+    format!("{difference}: U is at most {quotient} times L")
 }
 
 /// Thousandths as a decimal number: `2.988`.

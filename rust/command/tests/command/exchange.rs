@@ -1,7 +1,7 @@
 //! The files that the command writes for other programs, read back.
 
 use std::collections::BTreeMap;
-use std::fs;
+use std::{fs, iter};
 
 use zimgurav::{
     store_bytes, work_bytes, Word, BLOCK_BYTES, CONTACTS, PATTERN_BYTES, RECORD_BYTES, ROW_TICKS,
@@ -11,6 +11,9 @@ use zimgurav::{
 use crate::run::{file, lone_input, printed, scratch};
 
 const BLOCK: &str = "examples/adder24.blk";
+
+/// The command's default.
+const BUDGET: u64 = 1_000;
 
 /// The sheet, the pattern and its currents, of a search of the adder by the library itself.
 fn searched() -> (Vec<Word>, [u8; PATTERN_BYTES], Vec<Word>) {
@@ -23,11 +26,11 @@ fn searched() -> (Vec<Word>, [u8; PATTERN_BYTES], Vec<Word>) {
         10,
         &[1; CONTACTS],
         1_000,
-        200,
+        BUDGET,
         &mut ceiling,
         &mut pattern,
         &mut work,
-        &mut vec![0; store_bytes(200)],
+        &mut vec![0; store_bytes(BUDGET)],
     )
     .expect("a search");
     zimgurav::simulate(&block, &[1; CONTACTS], &mut simulated, &pattern, &mut work)
@@ -35,40 +38,47 @@ fn searched() -> (Vec<Word>, [u8; PATTERN_BYTES], Vec<Word>) {
     (ceiling, pattern, simulated)
 }
 
-/// The words of a sheet from its comma-separated values: each line a tick, each column a contact.
-fn words(values: &str) -> Vec<Word> {
+/// The sheets of comma-separated values, each line a tick, each column a contact of one of the named sheets.
+fn sheets(values: &str, names: &[&str]) -> Vec<Vec<Word>> {
     let mut lines = values.lines();
     let headings: Vec<&str> = lines.next().expect("headings").split(',').collect();
-    assert_eq!(headings.len(), 1 + CONTACTS);
-    assert_eq!((headings[0], headings[16]), ("tick", "contact 15 (uA)"));
+    let expected = names.iter().flat_map(|name| {
+        let contacts = 0..CONTACTS;
+        contacts.map(move |contact| format!("contact {contact} {name} (uA)"))
+    });
+    let expected: Vec<String> = iter::once("tick".to_string()).chain(expected).collect();
+    assert_eq!(headings, expected);
     let ticks: Vec<Vec<Word>> = lines.map(numbers).collect();
     assert_eq!(ticks.len(), ROW_TICKS);
-    let currents = (0..SHEET_WORDS).map(|at| {
-        let (contact, tick) = (at / ROW_TICKS, at % ROW_TICKS);
-        assert_eq!(ticks[tick][0], tick as Word);
-        ticks[tick][1 + contact]
+    let places = (0..names.len()).map(|sheet| {
+        let words = (0..SHEET_WORDS).map(|at| {
+            let (contact, tick) = (at / ROW_TICKS, at % ROW_TICKS);
+            assert_eq!(ticks[tick].len(), expected.len());
+            assert_eq!(ticks[tick][0], tick as Word);
+            ticks[tick][1 + CONTACTS * sheet + contact]
+        });
+        words.collect()
     });
-    currents.collect()
+    places.collect()
 }
 
-/// The numbers of a line: the tick, and the current of each contact.
+/// The numbers of a line.
 fn numbers(line: &str) -> Vec<Word> {
     let numbers = line.split(',').map(|word| word.parse().expect("a number"));
-    let numbers: Vec<Word> = numbers.collect();
-    assert_eq!(numbers.len(), 1 + CONTACTS);
-    numbers
+    numbers.collect()
 }
 
+/// Of a search, the ceiling and beside it the pattern's currents; of an envelope and of a simulation the one or the
+/// other.
 #[test]
-fn comma_separated_values_are_the_sheet() {
+fn comma_separated_values_are_the_sheets() {
     let (ceiling, _, simulated) = searched();
     let [of_search, of_simulation, pattern] = ["s.csv", "p.csv", "p.txt"].map(scratch);
     printed(&["search", BLOCK, "--csv", &of_search, "--pattern", &pattern]);
     printed(&["simulate", BLOCK, &pattern, "--csv", &of_simulation]);
-    for (path, sheet) in [(of_search, ceiling), (of_simulation, simulated)] {
-        let values = fs::read_to_string(&path).expect("the values");
-        assert!(words(&values) == sheet, "{path}");
-    }
+    let read = |path: &str, names| sheets(&fs::read_to_string(path).expect("the values"), names);
+    assert!(read(&of_simulation, &["pattern"]) == [simulated.clone()]);
+    assert!(read(&of_search, &["ceiling", "pattern"]) == [ceiling, simulated]);
 }
 
 /// Currents above 16 bits come back too.
@@ -86,7 +96,8 @@ fn great_currents() {
     let mut work = vec![0; work_bytes(3)];
     zimgurav::envelope(&block, 10, &[1; CONTACTS], &mut sheet, &mut work).expect("an envelope");
     assert_eq!(sheet.iter().max(), Some(&131_070));
-    assert!(words(&fs::read_to_string(values).expect("the values")) == sheet);
+    let values = fs::read_to_string(values).expect("the values");
+    assert!(sheets(&values, &["ceiling"]) == [sheet]);
 }
 
 /// The pattern that a search writes is the one that it found, a word for each input.

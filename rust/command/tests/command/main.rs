@@ -3,6 +3,8 @@
 mod arrivals;
 mod documents;
 mod exchange;
+mod files;
+mod interrupt;
 #[path = "../common/markup.rs"]
 mod markup;
 mod pictures;

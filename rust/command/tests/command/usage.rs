@@ -43,6 +43,32 @@ fn subcommands() {
     );
 }
 
+/// Help is asked for in several ways.
+#[test]
+fn help() {
+    assert_eq!(printed(&["help"]), printed(&["--help"]));
+    assert_eq!(printed(&["help", "search"]), printed(&["search", "--help"]));
+    assert_eq!(
+        printed(&["search", BLOCK, "-h"]),
+        printed(&["search", "-h"])
+    );
+    wrong(
+        &["help", "draw"],
+        "there is no subcommand draw; 'zimgurav --help' lists them",
+    );
+    wrong(&["help", "read", "more"], "more is an operand too many");
+}
+
+/// The release, the commit and the version of the calls.
+#[test]
+fn version() {
+    let version = printed(&["--version"]);
+    assert_eq!(printed(&["-V"]), version);
+    let calls = format!(", version {} of the calls\n", zimgurav::VERSION);
+    assert!(version.starts_with("zimgurav 0.1.0, "), "{version}");
+    assert!(version.ends_with(&calls), "{version}");
+}
+
 #[test]
 fn operands() {
     misused(&["read"], "BLOCK is missing");
@@ -63,7 +89,6 @@ fn options() {
     );
     misused(&["report", BLOCK], "-o FILE is missing");
     let text = "examples/c17.bench";
-    misused(&["bench", text, "-o", "x"], "--cells LIST is missing");
     misused(
         &["bench", text, "--cells", "examples/cells.txt"],
         "-o BLOCK is missing",
@@ -83,16 +108,26 @@ fn options_without_a_value() {
     }
 }
 
+/// A word that is no number is told the range that is meant, also one that looks like an option.
 #[test]
 fn numbers() {
-    for number in ["ten", "1.5", "18446744073709551616"] {
+    for (option, range, number) in [
+        ("--budget", "0 to 10000", "-5"),
+        ("--budget", "0 to 10000", "1e4"),
+        ("--budget", "0 to 10000", "18446744073709551616"),
+        ("--hop-limit", "1 to 16", "ten"),
+        ("--hop-limit", "1 to 16", "-1"),
+        ("--ratio", "1000 to 10000", "1.5"),
+    ] {
         misused(
-            &["search", BLOCK, "--budget", number],
-            &format!(
-                "--budget takes a whole number, 0 to 18,446,744,073,709,551,615, and not {number}"
-            ),
+            &["search", BLOCK, option, number],
+            &format!("{option} takes a whole number, {range}, and not {number}"),
         );
     }
+    misused(
+        &["search", BLOCK, "--budget", "-x"],
+        "--budget takes a value: --budget N",
+    );
 }
 
 #[test]
@@ -108,37 +143,56 @@ fn standard_input_as_an_output() {
 
 #[test]
 fn files() {
-    wrong(
-        &["read", "nowhere.blk"],
-        "nowhere.blk: No such file or directory (os error 2)",
-    );
-    wrong(
-        &["read", "examples"],
-        "examples: Is a directory (os error 21)",
-    );
+    wrong(&["read", "nowhere.blk"], "nowhere.blk: no such file");
+    wrong(&["read", "examples"], "examples: it is a folder");
     wrong(&["read", "/dev/zero"], "/dev/zero: longer than 64 MiB");
-    wrong(
-        &["envelope", BLOCK, "--csv", "nowhere/x.csv"],
-        "nowhere/x.csv: there is no folder nowhere",
-    );
+    for (path, fault) in [
+        ("nowhere/x.csv", "there is no folder nowhere"),
+        ("nowhere/", "there is no folder nowhere/"),
+        ("examples", "it is a folder"),
+    ] {
+        let arguments = ["envelope", BLOCK, "--csv", path];
+        wrong(&arguments, &format!("{path}: {fault}"));
+    }
     // The answer is printed before a file that cannot be written ends the command.
     let ended = run(&["envelope", BLOCK, "--csv", "/dev/full"]);
     assert_eq!(ended.output, printed(&["envelope", BLOCK]));
     assert_eq!(
         (ended.status, &ended.error[..]),
-        (
-            2,
-            "zimgurav: /dev/full: No space left on device (os error 28)\n"
-        )
+        (2, "zimgurav: /dev/full: No space left on device\n")
     );
 }
 
+/// Without a cell list it is told what that is.
 #[test]
-fn texts_and_lists() {
-    misused(
-        &["read", "examples/c17.bench"],
-        "a bench text needs a cell list, --cells LIST",
-    );
+fn texts_without_a_list() {
+    let message = "a bench text needs a cell list, --cells LIST: a text with a line for each kind of gate, \
+                   which has its contact, delay, rise, fall and peaks\n\
+                   examples/cells.txt in the repository is one, and 'zimgurav help bench' says more";
+    let path = scratch("no-list.blk");
+    for arguments in [
+        &["read", "examples/c17.bench"][..],
+        &["bench", "examples/c17.bench", "-o", &path],
+        &["bench", "-", "-o", &path],
+    ] {
+        misused(arguments, message);
+    }
+}
+
+/// A text that is not there is told before a list is asked for, or found missing.
+#[test]
+fn texts_that_are_missing() {
+    for arguments in [
+        &["search", "nowhere.bench"][..],
+        &["bench", "nowhere.bench", "-o", "target/x"],
+        &["read", "nowhere.bench", "--cells", "nowhere.txt"],
+    ] {
+        wrong(arguments, "nowhere.bench: no such file");
+    }
+}
+
+#[test]
+fn lists_without_a_text() {
     misused(
         &["read", BLOCK, "--cells", "examples/cells.txt"],
         "--cells is for a bench text, and the name of one ends in .bench",
@@ -210,10 +264,13 @@ fn cell_lists() {
 
 #[test]
 fn tables() {
-    misused(
-        &["envelope", BLOCK, "--ohms", "65.536"],
-        "--ohms takes 0 to 65.535, as 0.5 or 12, with at most three decimals, and not 65.536",
-    );
+    for ohms in ["65.536", "-1", "-.5"] {
+        let range = "0 to 65.535, as 0.5 or 12, with at most three decimals";
+        misused(
+            &["envelope", BLOCK, "--ohms", ohms],
+            &format!("--ohms takes {range}, and not {ohms}"),
+        );
+    }
     misused(
         &["envelope", BLOCK, "--ohms", "1", "--table", "x"],
         "a table is either of a file, --table, or of one node, --ohms",
@@ -311,34 +368,9 @@ fn names_that_are_no_text() {
 #[test]
 fn operands_that_look_like_options() {
     for word in ["-h", "--help", "--nets"] {
-        let message = format!("{word}: No such file or directory (os error 2)");
+        let message = format!("{word}: no such file");
         wrong(&["read", "--", word], &message);
     }
-}
-
-/// No file is written that is also read, or written twice.
-#[test]
-fn files_given_twice() {
-    let path = scratch("twice");
-    misused(
-        &["search", BLOCK, "--svg", &path, "--csv", &path],
-        &format!("--svg would write {path}, which is given for something else too"),
-    );
-    let list = "examples/cells.txt";
-    for written in ["examples/c17.bench", list, "examples/../examples/c17.bench"] {
-        misused(
-            &[
-                "bench",
-                "examples/c17.bench",
-                "--cells",
-                list,
-                "-o",
-                written,
-            ],
-            &format!("-o would write {written}, which is given for something else too"),
-        );
-    }
-    assert!(!Path::new(&path).exists());
 }
 
 /// A reader that has closed its end is no failure; an output that takes nothing is, and a standard error that takes
@@ -361,7 +393,7 @@ fn outputs_that_take_nothing() {
     };
     let ended = command(&["search", BLOCK]).stdout(full()).output();
     let ended = ended.expect("the command starts");
-    let message = "zimgurav: standard output: No space left on device (os error 28)\n";
+    let message = "zimgurav: standard output: No space left on device\n";
     assert_eq!(
         (ended.status.code(), &ended.stderr[..]),
         (Some(2), message.as_bytes())
