@@ -12,6 +12,7 @@ mod excitation;
 mod failure;
 mod files;
 mod help;
+mod line_fault;
 mod number;
 mod options;
 mod output;

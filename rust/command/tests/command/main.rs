@@ -3,6 +3,7 @@
 mod arrivals;
 mod documents;
 mod exchange;
+mod lines;
 #[path = "../common/markup.rs"]
 mod markup;
 mod pictures;
