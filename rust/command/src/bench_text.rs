@@ -4,6 +4,7 @@ use zimgurav::{refused, Refusal, BLOCK_BYTES, RECORD_BYTES};
 
 use crate::cells::Cells;
 use crate::failure::Failure;
+use crate::line_fault;
 use crate::number::counted;
 use crate::{output, progress};
 
@@ -31,7 +32,7 @@ impl BenchText<'_> {
         let place = refusal.place;
         let (of, at, standing) = match refusal.number {
             refused::RANGE => (&cells.name[..], Some("row"), cells.line(place).to_string()),
-            refused::LINE => (self.name, Some("line"), self.line(place as usize)),
+            refused::LINE => (self.name, Some("line"), self.line_of_form(place as usize)),
             refused::NAME => (self.name, Some("line"), self.line_of_name(place as usize)),
             refused::INPUT | refused::ARRIVAL => {
                 let given = self.given().nth(place as usize);
@@ -48,44 +49,71 @@ impl BenchText<'_> {
 
     /// A line, or its beginning, by its number from 1.
     fn line(&self, number: usize) -> String {
-        let line = self.lines().nth(number - 1).unwrap_or_default();
+        let line = self.bytes_of_line(number);
         let line = line.strip_suffix(b"\r").unwrap_or(line);
-        let shown = output::shortened(&line.escape_ascii().to_string());
-        format!("line {number}: {shown}")
+        format!("line {number}: {}", output::escaped(line))
+    }
+
+    /// A line that is refused for its form, and why.
+    fn line_of_form(&self, number: usize) -> String {
+        let gate = self.first_gate().filter(|(line, _)| *line < number);
+        let gate = gate.as_ref().map(|(line, name)| (*line, &name[..]));
+        let fault = line_fault::fault(self.bytes_of_line(number), gate);
+        let fault = fault.unwrap_or_else(|| line_fault::FORMS.to_string());
+        format!("{}\n{fault}", self.line(number))
     }
 
     /// A line that is refused for a name, and which name that is.
     fn line_of_name(&self, number: usize) -> String {
-        let line = self.lines().nth(number - 1).unwrap_or_default();
-        let content = content(line);
+        let line = self.bytes_of_line(number);
         let earlier: Vec<(usize, String)> = self
             .given()
             .take_while(|(line, _)| *line < number)
             .collect();
         let known = |name: &str| earlier.iter().find(|(_, given)| given == name);
-        let (_, pins) = content.split_once('=').unwrap_or_default();
-        let pins = pins.split(['(', ',', ')']).skip(1);
-        let unknown = pins
-            .filter(|pin| !pin.is_empty())
-            .find(|pin| known(pin).is_none());
+        let unknown = written_pins(line)
+            .map(|pin| (pin, content(pin)))
+            .find(|(_, pin)| known(pin).is_none());
+        let content = content(line);
         let again = given_name(&content).and_then(known);
         let fault = match (unknown, again) {
-            (Some(pin), _) => format!("\nno earlier line gives {pin}"),
+            (Some((written, pin)), _) => {
+                let fault = format!("\nno earlier line gives {pin}");
+                line_fault::with_blanks(fault, written)
+            }
             (None, Some((first, name))) => format!("\nline {first} gives {name} already"),
             (None, None) => String::new(),
         };
         self.line(number) + &fault
     }
 
+    /// A line by its number from 1.
+    fn bytes_of_line(&self, number: usize) -> &[u8] {
+        self.lines().nth(number - 1).unwrap_or_default()
+    }
+
     fn lines(&self) -> impl Iterator<Item = &[u8]> {
         self.bytes.split(|byte| *byte == b'\n')
+    }
+
+    /// What is left of each line, by its number from 1.
+    fn contents(&self) -> impl Iterator<Item = (usize, String)> + '_ {
+        self.lines()
+            .zip(1..)
+            .map(|(line, number)| (number, content(line)))
     }
 
     /// The lines that give a record, by their numbers, with the names that they give it, in a text of which no line is
     /// refused.
     fn given(&self) -> impl Iterator<Item = (usize, String)> + '_ {
-        let lines = self.lines().map(content).zip(1..);
-        lines.filter_map(|(content, number)| Some((number, given_name(&content)?.to_string())))
+        self.contents()
+            .filter_map(|(number, content)| Some((number, given_name(&content)?.to_string())))
+    }
+
+    /// The first gate, by the number of its line and its name.
+    fn first_gate(&self) -> Option<(usize, String)> {
+        let (number, content) = self.contents().find(|(_, content)| content.contains('='))?;
+        Some((number, given_name(&content)?.to_string()))
     }
 
     /// The names of the nets of an accepted text.
@@ -94,11 +122,33 @@ impl BenchText<'_> {
     }
 }
 
+/// What stands on a line before its comment.
+pub fn uncommented(line: &[u8]) -> &[u8] {
+    line.split(|byte| *byte == b'#').next().unwrap_or_default()
+}
+
+/// The blanks, which are skipped wherever they stand.
+pub fn is_blank(byte: &u8) -> bool {
+    matches!(byte, b'\t' | b'\r' | b' ')
+}
+
+pub fn without_blanks(bytes: &[u8]) -> Vec<u8> {
+    let kept = bytes.iter().filter(|byte| !is_blank(byte));
+    kept.copied().collect()
+}
+
 /// What is left of a line without its comment and blanks.
 fn content(line: &[u8]) -> String {
-    let comment = line.iter().position(|byte| *byte == b'#');
-    let line = String::from_utf8_lossy(&line[..comment.unwrap_or(line.len())]);
-    line.replace(['\t', '\r', ' '], "")
+    String::from_utf8_lossy(&without_blanks(uncommented(line))).into_owned()
+}
+
+/// The pins on the line of a gate, as they are written; none on any other line.
+fn written_pins(line: &[u8]) -> impl Iterator<Item = &[u8]> {
+    let after_name = uncommented(line).splitn(2, |byte| *byte == b'=').nth(1);
+    let pieces = after_name
+        .unwrap_or_default()
+        .split(|byte| b"(,)".contains(byte));
+    pieces.skip(1).filter(|piece| !piece.iter().all(is_blank))
 }
 
 /// The name that a line gives, if it is that of an input or a gate.

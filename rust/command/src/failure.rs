@@ -87,15 +87,11 @@ fn indented(message: &str) -> String {
     message.replace('\n', "\n  ")
 }
 
-/// The rule that a record or a line breaks, where the meaning of the refusal does not say it.
+/// The rule that a record or a row breaks, where the meaning of the refusal does not say it.
 fn rule(number: u64) -> Option<&'static str> {
     match number {
         refused::PIN_COUNT => Some("a NOT or BUF has 1 pin, any other gate 2 to 4"),
         refused::RANGE => Some(RANGES),
-        refused::LINE => Some(
-            "the forms are INPUT(name), OUTPUT(name) and name = KIND(name, ...), \
-             and a name is 1 to 16 letters or digits",
-        ),
         _ => None,
     }
 }

@@ -14,6 +14,7 @@ mod files;
 mod help;
 mod identity;
 mod interrupt;
+mod line_fault;
 mod number;
 mod options;
 mod output;

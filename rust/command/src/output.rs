@@ -26,6 +26,27 @@ pub fn shortened(text: &str) -> String {
     }
 }
 
+/// Bytes of a file as a text, or its beginning where they are many. What cannot be seen is shown by its number: a byte
+/// that is no UTF-8, and a character that has no sign.
+pub fn escaped(bytes: &[u8]) -> String {
+    // A character has four bytes at most.
+    let beginning = &bytes[..bytes.len().min(4 * (MOST_SHOWN + 1))];
+    let mut text = String::new();
+    for chunk in beginning.utf8_chunks() {
+        text.extend(chunk.valid().chars().map(escaped_character));
+        text += &chunk.invalid().escape_ascii().to_string();
+    }
+    shortened(&text)
+}
+
+fn escaped_character(character: char) -> String {
+    match u8::try_from(character) {
+        Ok(b' '..=b'~') => character.to_string(),
+        Ok(control) if control.is_ascii() => control.escape_ascii().to_string(),
+        _ => character.escape_debug().to_string(),
+    }
+}
+
 /// Prints a text. A reader that has seen enough and closed its end is no failure.
 pub fn print(text: &str) -> Result<(), Failure> {
     let mut output = io::stdout().lock();

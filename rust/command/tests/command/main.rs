@@ -5,6 +5,7 @@ mod documents;
 mod exchange;
 mod files;
 mod interrupt;
+mod lines;
 #[path = "../common/markup.rs"]
 mod markup;
 mod pictures;

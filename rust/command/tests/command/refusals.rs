@@ -6,19 +6,15 @@ use std::path::Path;
 
 use crate::run::{file, run, run_on, scratch, text, Ended};
 
-const CELLS: &str = "examples/cells.txt";
+pub const CELLS: &str = "examples/cells.txt";
 
 /// What is said of the ranges.
 pub const RANGES: &str = "a contact is 0 to 15, a delay 1 to 63, rise and fall are 1 to 127, \
                           a peak is 0 to 65,535, an input's set is 1 to 15";
 
-/// What is said of the forms of a line.
-const FORMS: &str = "the forms are INPUT(name), OUTPUT(name) and name = KIND(name, ...), \
-                     and a name is 1 to 16 letters or digits";
-
 /// The command says just these lines on standard error.
 #[track_caller]
-fn refused(ended: Ended, lines: &[&str]) {
+pub fn refused(ended: Ended, lines: &[&str]) {
     let expected = Ended {
         status: 1,
         output: String::new(),
@@ -333,17 +329,21 @@ mod of_a_text {
                 "standard input: refused 17 at line 3: a line of the text fits no form, has no known kind \
                  or a wrong pin count, or is an INPUT after a gate",
                 "line 3: \\tc = NAND(a b # no comma",
-                FORMS,
+                "the closing bracket is missing",
             ],
         );
     }
 
-    /// Of a long line the beginning is shown.
+    /// Of a long line the beginning is shown, and so it is of a long part of it.
     #[test]
     fn long_line() {
         let line = "c = NAND(a, b) ".repeat(20);
         let ended = run_on(line.as_bytes(), &["read", "-", "--cells", CELLS]);
-        let shown = format!("\n  line 1: {} ...\n  {FORMS}\n", &line[..160]);
+        let beginning = &line[..160];
+        let shown = format!(
+            "\n  line 1: {beginning} ...\n  only a comment, from # on, may stand \
+             after the closing bracket, but there stands {beginning} ...\n"
+        );
         assert!(ended.error.ends_with(&shown), "{ended:?}");
     }
 
@@ -355,6 +355,10 @@ mod of_a_text {
         for (line, fault) in [
             ("c = NOT(d)", "no earlier line gives d"),
             ("c = AND(a, b, c)", "no earlier line gives c"),
+            (
+                "c = AND( a b , b)",
+                "no earlier line gives ab: blanks are skipped, so that a b is the name ab",
+            ),
             ("b = AND(b, a)", "line 2 gives b already"),
             ("INPUT(a)", "line 1 gives a already"),
         ] {
