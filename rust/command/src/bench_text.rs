@@ -71,20 +71,29 @@ impl BenchText<'_> {
             .take_while(|(line, _)| *line < number)
             .collect();
         let known = |name: &str| earlier.iter().find(|(_, given)| given == name);
-        let unknown = written_pins(line)
-            .map(|pin| (pin, content(pin)))
-            .find(|(_, pin)| known(pin).is_none());
+        let unknown = written_pins(line).find(|pin| known(&content(pin)).is_none());
         let content = content(line);
         let again = given_name(&content).and_then(known);
         let fault = match (unknown, again) {
-            (Some((written, pin)), _) => {
-                let fault = format!("\nno earlier line gives {pin}");
-                line_fault::with_blanks(fault, written)
-            }
+            (Some(pin), _) => format!("\n{}", self.unknown(number, pin)),
             (None, Some((first, name))) => format!("\nline {first} gives {name} already"),
             (None, None) => String::new(),
         };
         self.line(number) + &fault
+    }
+
+    /// Why a pin of a line, as it is written, is not known there.
+    fn unknown(&self, number: usize, written: &[u8]) -> String {
+        let pin = content(written);
+        let fault = format!("no earlier line gives {pin}");
+        let mut others = self.given().skip_while(|(line, _)| *line < number);
+        match others.find(|(_, given)| *given == pin) {
+            Some((line, _)) if line == number => fault + ", and a gate cannot feed itself",
+            Some((line, _)) => {
+                format!("{fault}, but line {line} does: a gate stands after those that feed it")
+            }
+            None => line_fault::with_blanks(fault, written),
+        }
     }
 
     /// A line by its number from 1.

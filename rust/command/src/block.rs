@@ -175,7 +175,7 @@ fn unread(name: &str, file: &[u8], refusal: Refusal) -> Failure {
     };
     let in_text = |byte: &u8| byte.is_ascii_graphic() || byte.is_ascii_whitespace();
     if !file.is_empty() && file.iter().all(in_text) {
-        standing += "\nit is a text: a bench text has a name that ends in .bench, and --cells LIST";
+        standing += "\nit is a text: a bench text needs --cells LIST, and a name that ends in .bench, or standard input";
     }
     Failure::refused(name, refusal, place, &standing)
 }

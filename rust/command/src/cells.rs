@@ -10,6 +10,7 @@ use zimgurav::{LIST_BYTES, LIST_ROW_BYTES};
 
 use crate::failure::{Failure, RANGES};
 use crate::files;
+use crate::line_fault;
 use crate::output;
 use crate::record::KINDS;
 
@@ -82,15 +83,22 @@ impl Cells {
 fn row(line: &str) -> Result<(usize, [u8; LIST_ROW_BYTES]), String> {
     let words: Vec<&str> = line.split_whitespace().collect();
     let (kind, fields) = words.split_first().ok_or("an empty line")?;
-    let kind = KINDS.iter().position(|known| known == kind);
-    let kind = kind.ok_or("it begins with no kind of gate")?;
+    let kind = match line_fault::check_kind(kind.as_bytes())? {
+        "BUFF" => "BUF",
+        kind => kind,
+    };
+    let kind = KINDS.iter().position(|known| *known == kind);
+    let kind = kind.expect("each kind has a row");
     if fields.len() != FIELDS.len() {
         return Err("a kind has contact, delay, rise, fall, peak lh and peak hl".to_string());
     }
     let mut numbers = [0; FIELDS.len()];
     for ((number, word), (name, room)) in numbers.iter_mut().zip(fields).zip(FIELDS) {
         let read = word.parse().ok().filter(|number| *number <= room);
-        *number = read.ok_or_else(|| format!("a {name} is not in its range: {RANGES}"))?;
+        *number = read.ok_or_else(|| {
+            let word = output::shortened(word);
+            format!("{word} is no {name}, which is a whole number in its range: {RANGES}")
+        })?;
     }
     let [contact, delay, rise, fall, peak_lh, peak_hl] = numbers.map(u16::to_le_bytes);
     let bytes = [

@@ -1,15 +1,20 @@
-//! An interrupt, Ctrl-C on a terminal: it ends the command with a sentence, and no file is left half written.
+//! Signals that end the command, Ctrl-C on a terminal among them: during a call they end it with a sentence, and while a
+//! file is written they wait until it is whole or given up.
 
-use std::ffi::{c_char, c_int, c_void, CString};
+use std::ffi::{c_int, c_void};
 use std::io::{self, IsTerminal};
-use std::os::unix::ffi::OsStrExt;
-use std::path::Path;
-use std::ptr;
-use std::sync::atomic::{AtomicBool, AtomicPtr, Ordering};
+use std::sync::atomic::{AtomicBool, AtomicI32, Ordering};
 
 const STANDARD_ERROR: c_int = 2;
+
+// The numbers of signals on Linux: Ctrl-C, a request to end, a terminal that is closed, and a file above the size that
+// is allowed.
 const SIGINT: c_int = 2;
-/// What `signal` takes and returns in place of a handler.
+const SIGTERM: c_int = 15;
+const SIGHUP: c_int = 1;
+const SIGXFSZ: c_int = 25;
+
+// What `signal` takes and returns in place of a handler.
 const BY_DEFAULT: usize = 0;
 const IGNORED: usize = 1;
 
@@ -17,74 +22,77 @@ unsafe extern "C" {
     fn signal(number: c_int, handler: usize) -> usize;
     fn raise(number: c_int) -> c_int;
     fn write(file: c_int, bytes: *const c_void, count: usize) -> isize;
-    fn unlink(path: *const c_char) -> c_int;
 }
 
 /// Whether the sentence begins on a line of its own: a terminal shows `^C`, and perhaps how long the call has run.
 static ON_A_TERMINAL: AtomicBool = AtomicBool::new(false);
 
-/// The name of the file that is being written, to be removed; null where there is none.
-static TEMPORARY: AtomicPtr<c_char> = AtomicPtr::new(ptr::null_mut());
+/// The signal that came while a file was written; 0 for none.
+static POSTPONED: AtomicI32 = AtomicI32::new(0);
 
-/// Makes a call of the library. An interrupt ends the command.
+/// Makes a call of the library. Ctrl-C ends the command.
 pub fn during_a_call<Answer>(call: impl FnOnce() -> Answer) -> Answer {
-    handled(call_interrupted, call)
-}
-
-/// Writes a temporary file and gives it its name. An interrupt removes it and ends the command.
-pub fn during_a_write<Answer>(temporary: &Path, write: impl FnOnce() -> Answer) -> Answer {
-    let name = CString::new(temporary.as_os_str().as_bytes()).unwrap_or_default();
-    TEMPORARY.store(name.as_ptr().cast_mut(), Ordering::SeqCst);
-    let answer = handled(write_interrupted, write);
-    TEMPORARY.store(ptr::null_mut(), Ordering::SeqCst);
+    let before = handle(SIGINT, end_call);
+    let answer = call();
+    set(SIGINT, before);
     answer
 }
 
-/// Does something while interrupts are handled. Where they were ignored, as `nohup` asks for, they still are.
-fn handled<Answer>(handler: extern "C" fn(c_int), action: impl FnOnce() -> Answer) -> Answer {
+/// Writes a file. A signal that would end the command ends it afterwards, and a file that grows above the size that is
+/// allowed is a failure like others.
+pub fn after_a_write<Answer>(write: impl FnOnce() -> Answer) -> Answer {
+    let ending = [SIGINT, SIGTERM, SIGHUP].map(|number| (number, handle(number, postpone)));
+    let size = set(SIGXFSZ, IGNORED);
+    let answer = write();
+    set(SIGXFSZ, size);
+    for (number, before) in ending {
+        set(number, before);
+    }
+    match POSTPONED.load(Ordering::SeqCst) {
+        0 => {}
+        number => end(number, "a file that was not written yet is as it was"),
+    }
+    answer
+}
+
+/// Has a signal handled, and returns what was done with it before. Where it was ignored, as `nohup` asks for, it still
+/// is.
+fn handle(number: c_int, handler: extern "C" fn(c_int)) -> usize {
     ON_A_TERMINAL.store(io::stderr().is_terminal(), Ordering::SeqCst);
-    // SAFETY: the handler does nothing but what is allowed in one.
-    let before = unsafe { signal(SIGINT, handler as *const () as usize) };
+    let before = set(number, handler as *const () as usize);
     if before == IGNORED {
-        // SAFETY: it is no handler.
-        unsafe { signal(SIGINT, IGNORED) };
+        set(number, IGNORED);
     }
-    let answer = action();
-    // SAFETY: it is what was there before.
-    unsafe { signal(SIGINT, before) };
-    answer
+    before
 }
 
-extern "C" fn call_interrupted(number: c_int) {
-    end(
-        number,
-        "zimgurav: interrupted; there is no answer, and no file was written\n",
-    );
+/// Sets what is done with a signal, and returns what was done with it before.
+fn set(number: c_int, action: usize) -> usize {
+    // SAFETY: an action is one of the handlers below, which do nothing but what is allowed in one, or no handler.
+    unsafe { signal(number, action) }
 }
 
-extern "C" fn write_interrupted(number: c_int) {
-    let temporary = TEMPORARY.load(Ordering::SeqCst);
-    if !temporary.is_null() {
-        // SAFETY: the name is there until the pointer to it is null.
-        unsafe { unlink(temporary) };
-    }
-    end(
-        number,
-        "zimgurav: interrupted; a file that was not written yet is as it was\n",
-    );
+extern "C" fn end_call(number: c_int) {
+    end(number, "there is no answer, and no file was written");
 }
 
-/// Says why the command ends, and lets the interrupt end it, so that a shell and its scripts know.
-fn end(number: c_int, sentence: &str) {
+/// Keeps a signal for later. A second one ends the command at once.
+extern "C" fn postpone(number: c_int) {
+    POSTPONED.store(number, Ordering::SeqCst);
+    set(number, BY_DEFAULT);
+}
+
+/// Says that the command ends and what that leaves, and lets the signal end it, so that a shell and its scripts know.
+fn end(number: c_int, left: &str) {
     if ON_A_TERMINAL.load(Ordering::SeqCst) {
         say("\n");
     }
-    say(sentence);
-    // SAFETY: both are allowed in a handler. The signal waits until the handler has returned.
-    unsafe {
-        signal(number, BY_DEFAULT);
-        raise(number);
-    }
+    say("zimgurav: interrupted; ");
+    say(left);
+    say("\n");
+    set(number, BY_DEFAULT);
+    // SAFETY: it is allowed in a handler, after which the signal then comes; elsewhere it comes at once.
+    unsafe { raise(number) };
 }
 
 /// Writes a text to standard error, which may take it or not.

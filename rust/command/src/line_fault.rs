@@ -11,10 +11,11 @@ use crate::number::grouped;
 use crate::output::escaped;
 
 pub use name::with_blanks;
+pub use word::check_kind;
 
 /// The rule that every line keeps.
 pub const FORMS: &str = "the forms are INPUT(name), OUTPUT(name) and name = KIND(name, ...), \
-                         and a name is 1 to 16 letters or digits";
+                         a name is 1 to 16 letters or digits, and # begins a comment";
 
 /// What some editors put before a text in UTF-8.
 const BYTE_ORDER_MARK: &[u8] = "\u{feff}".as_bytes();
@@ -138,6 +139,10 @@ impl<'a> Form<'a> {
         }
         let closing = self.after.iter().position(|byte| *byte == b')');
         let inside = &self.after[..closing.unwrap_or(self.after.len())];
+        if closing.is_none() && matches!(trimmed(inside), [] | [.., b',']) {
+            let fault = "the line ends inside the brackets: a form stands on one line, whole";
+            return Err(fault.to_string());
+        }
         check_names(inside)?;
         let closing = closing.ok_or("the closing bracket is missing")?;
         let rest = trimmed(&self.after[closing + 1..]);

@@ -87,6 +87,7 @@ fn version() -> String {
 fn help(names: &[OsString]) -> Result<(), Failure> {
     match names {
         [] => output::print(&help::whole()),
+        [name] if name == "help" || is_help(name) => output::print(&help::whole()),
         [name] => output::print(&help::of(known(name)?)),
         [_, extra, ..] => Err(Failure::extra(extra)),
     }

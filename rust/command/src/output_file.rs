@@ -1,9 +1,10 @@
 //! A file that the command writes: whole, or not at all.
 
 use std::ffi::OsStr;
-use std::fs::{self, File};
+use std::fs::{self, File, Permissions};
 use std::io::{self, ErrorKind, Write};
 use std::os::unix::ffi::OsStrExt;
+use std::os::unix::fs::{fchown, MetadataExt, PermissionsExt};
 use std::path::{Path, PathBuf};
 use std::process;
 
@@ -62,7 +63,8 @@ fn place(path: &Path) -> Result<Place, String> {
             };
             let missing = |_| format!("there is no folder {}", folder.display());
             fs::metadata(folder).map_err(missing)?;
-            resolved(path).map(Place::File).map_err(fault)
+            let unresolved = |_| "it is a link into a folder that is not there".to_string();
+            resolved(path).map(Place::File).map_err(unresolved)
         }
         Err(error) => Err(fault(error)),
     }
@@ -71,23 +73,25 @@ fn place(path: &Path) -> Result<Place, String> {
 /// Writes a file beside the place and gives it the place's name, which so has the old file or the new one at every
 /// moment, whole, even where the disk is full or the command is ended.
 fn replace(path: &Path, contents: &[u8]) -> Result<(), String> {
-    let unmade = |error| format!("no file can be made in its folder: {}", fault(error));
-    let (temporary, file) = temporary(folder(path)).map_err(unmade)?;
-    let written = interrupt::during_a_write(&temporary, || {
-        fill(&file, contents, path)?;
-        fs::rename(&temporary, path)
-    });
-    if written.is_err() {
-        // Where it cannot be removed either, what went wrong first is told.
-        let _ = fs::remove_file(&temporary);
-    }
-    written.map_err(fault)
+    interrupt::after_a_write(|| {
+        let unmade = |error| format!("no file can be made in its folder: {}", fault(error));
+        let (temporary, file) = temporary(folder(path)).map_err(unmade)?;
+        let filled = fill(&file, contents, path);
+        let written = filled.and_then(|()| fs::rename(&temporary, path));
+        if written.is_err() {
+            // Where it cannot be removed either, what went wrong first is told.
+            let _ = fs::remove_file(&temporary);
+        }
+        written.map_err(fault)
+    })
 }
 
-/// Puts the contents into a file, with the permissions of the file that it replaces.
+/// Puts the contents into a file, with the permissions of the file that it replaces and, where that is allowed, its
+/// owner.
 fn fill(mut file: &File, contents: &[u8], replaced: &Path) -> io::Result<()> {
     if let Ok(metadata) = fs::metadata(replaced) {
-        file.set_permissions(metadata.permissions())?;
+        let _ = fchown(file, Some(metadata.uid()), Some(metadata.gid()));
+        file.set_permissions(Permissions::from_mode(metadata.mode() & 0o777))?;
     }
     file.write_all(contents)?;
     // Some disks say only now that they are full.

@@ -34,10 +34,10 @@ fn wrong_character(bytes: &[u8]) -> (String, &'static str) {
     let first = chunk.and_then(|chunk| chunk.valid().chars().next());
     match first {
         Some(sign @ ('_' | '[' | ']' | '.' | '$')) => (
-            format!("a {sign}, as other tools write it"),
+            format!("a '{sign}', as other tools write it"),
             "a name has letters and digits alone, so this one has to be changed",
         ),
-        Some(sign) if sign.is_ascii_graphic() => (format!("a {sign}"), rule),
+        Some(sign) if sign.is_ascii_graphic() => (format!("a '{sign}'"), rule),
         Some(character) if !character.is_ascii() => (
             in_words(character),
             "a name has letters from A to Z and a to z and digits alone",

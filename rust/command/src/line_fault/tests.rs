@@ -7,11 +7,11 @@ use zimgurav::{refused, Refusal, BLOCK_BYTES, LIST_BYTES, LIST_ROW_BYTES};
 use super::{fault, word};
 
 /// A piece of each sentence that tells a fault; of some, several.
-const SENTENCES: [&str; 41] = [
+const SENTENCES: [&str; 42] = [
     "the line begins with a byte order mark, U+FEFF",
     "a name is missing before =",
     ", as other tools write it: a name has letters and digits alone, so this one",
-    "has a ;: a name has letters and digits alone",
+    "has a ';': a name has letters and digits alone",
     ": a name has letters and digits alone",
     "has the byte \\xff: ",
     "has the byte \\x00: ",
@@ -36,6 +36,7 @@ const SENTENCES: [&str; 41] = [
     "all inputs stand before all gates, and line 3 gives the gate g",
     "the opening bracket is missing after",
     "the closing bracket is missing",
+    "the line ends inside the brackets",
     "only a comment, from # on, may stand after the closing bracket, but there stands",
     "a second ( stands inside the brackets",
     "a name is missing after the opening bracket",

@@ -3,9 +3,9 @@
 use std::fs::{self, File};
 use std::os::unix::fs::{symlink, PermissionsExt};
 use std::path::Path;
-use std::process::{Command, Output, Stdio};
+use std::process::{Command, Stdio};
 
-use crate::run::{command, file, printed, root, run, run_on, scratch, Ended};
+use crate::run::{command, file, printed, run, run_on, scratch, Ended};
 
 const BLOCK: &str = "examples/block_f.blk";
 const LIST: &str = "examples/cells.txt";
@@ -166,34 +166,40 @@ fn replaced() {
     assert_eq!(names(&folder), ["a.blk", "link", "old.csv"]);
 }
 
-/// Runs the command where no file may have more than a kilobyte: a write fails in its midst or, as an interrupt does,
-/// ends the command.
-fn on_a_full_disk(prologue: &str, arguments: &[&str]) -> Output {
-    let script = format!("{prologue} ulimit -f 1; exec \"$0\" \"$@\"");
-    Command::new("sh")
-        .args(["-c", &script, env!("CARGO_BIN_EXE_zimgurav")])
-        .args(arguments)
-        .current_dir(root())
-        .stdin(Stdio::null())
-        .output()
-        .expect("a shell")
-}
-
-/// Where a file cannot be written whole, the old one is as it was.
+/// Where a file cannot be written whole, here since none may have more than a kilobyte, the old one is as it was.
 #[test]
 fn whole_or_not_at_all() {
     let folder = folder("full");
     let [block, old] = ["a.blk", "old.csv"].map(|name| format!("{folder}/{name}"));
     fs::write(&old, "old").expect("written");
-    let arguments = ["envelope", &block, "--csv", &old];
-    let ended = on_a_full_disk("trap '' XFSZ;", &arguments);
+    let ended = Command::new("sh")
+        .args(["-c", "ulimit -f 1; exec \"$0\" \"$@\""])
+        .arg(env!("CARGO_BIN_EXE_zimgurav"))
+        .args(["envelope", &block, "--csv", &old])
+        .stdin(Stdio::null())
+        .output()
+        .expect("a shell");
     let error = String::from_utf8(ended.stderr).expect("text");
     assert_eq!(ended.status.code(), Some(2), "{error}");
     assert_eq!(error, format!("zimgurav: {old}: File too large\n"));
     assert_eq!(names(&folder), ["a.blk", "old.csv"]);
-    let ended = on_a_full_disk("", &arguments);
-    assert_eq!(ended.status.code(), None, "the write ends the command");
     assert_eq!(fs::read_to_string(&old).expect("the old file"), "old");
+}
+
+/// A link into a folder that is not there is told, and where no file can be made.
+#[test]
+fn places_where_nothing_can_be_written() {
+    let folder = folder("nowhere");
+    let [block, link] = ["a.blk", "link"].map(|name| format!("{folder}/{name}"));
+    symlink("missing/x.csv", &link).expect("a link");
+    let ended = run(&["envelope", &block, "--csv", &link]);
+    let message = "it is a link into a folder that is not there";
+    assert_eq!(ended.error, format!("zimgurav: {link}: {message}\n"));
+    assert_eq!((ended.status, &ended.output[..]), (2, ""));
+    let ended = run(&["envelope", &block, "--csv", "/proc/x.csv"]);
+    let message = "zimgurav: /proc/x.csv: no file can be made in its folder: ";
+    assert!(ended.error.starts_with(message), "{ended:?}");
+    assert_eq!(ended.status, 2);
 }
 
 /// What is no file is written as it is: a pipe, here standard output.

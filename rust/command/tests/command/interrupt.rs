@@ -40,9 +40,9 @@ fn of_a_search() {
         );
         thread::sleep(Duration::from_millis(1));
     }
-    let id = child.id().to_string();
-    let killed = Command::new("kill").args(["-INT", &id]).status();
-    assert!(killed.expect("kill starts").success());
+    let interrupt = format!("kill -INT {}", child.id());
+    let interrupted = Command::new("sh").args(["-c", &interrupt]).status();
+    assert!(interrupted.expect("a shell").success());
     let ended = child.wait_with_output().expect("the command ends");
     assert_eq!(ended.status.signal(), Some(SIGINT));
     assert_eq!(String::from_utf8(ended.stdout).expect("text"), "");

@@ -5,7 +5,7 @@ use crate::run::run_on;
 
 /// What is said of the forms of a line.
 const FORMS: &str = "the forms are INPUT(name), OUTPUT(name) and name = KIND(name, ...), \
-                     and a name is 1 to 16 letters or digits";
+                     a name is 1 to 16 letters or digits, and # begins a comment";
 
 /// Each of these lines is refused as the second one of a text, and its fault is told.
 #[track_caller]
@@ -144,7 +144,7 @@ fn capitals() {
 fn signs_of_other_tools() {
     for sign in ["_", "[", "]", ".", "$"] {
         let fault = format!(
-            "the name n{sign}1 has a {sign}, as other tools write it: \
+            "the name n{sign}1 has a '{sign}', as other tools write it: \
              a name has letters and digits alone, so this one has to be changed"
         );
         for line in ["INPUT(#)", "OUTPUT( # )", "# = NOT(a)", "y = OR(a, #, +)"] {
@@ -158,15 +158,15 @@ fn characters() {
     unread(&[
         (
             "INPUT(a-1)",
-            "the name a-1 has a -: a name has letters and digits alone",
+            "the name a-1 has a '-': a name has letters and digits alone",
         ),
         (
             "y = NOT(~a)",
-            "the name ~a has a ~: a name has letters and digits alone",
+            "the name ~a has a '~': a name has letters and digits alone",
         ),
         (
             "INPUT(b) = NOT(a)",
-            "the name INPUT(b) has a (: a name has letters and digits alone",
+            "the name INPUT(b) has a '(': a name has letters and digits alone",
         ),
         (
             "gr\u{fc}n = NOT(a)",
@@ -327,6 +327,14 @@ fn brackets() {
         ("y = NOT a", "the opening bracket is missing after NOT"),
         ("y = AND)a, b(", "the opening bracket is missing after AND"),
         ("INPUT(b", "the closing bracket is missing"),
+        (
+            "INPUT(",
+            "the line ends inside the brackets: a form stands on one line, whole",
+        ),
+        (
+            "y = NAND(a, # and b",
+            "the line ends inside the brackets: a form stands on one line, whole",
+        ),
         ("y = NAND(a, b", "the closing bracket is missing"),
     ]);
     for (line, rest) in [
@@ -352,7 +360,6 @@ fn missing_names() {
     unread(&[
         ("= NAND(a, b)", "a name is missing before ="),
         ("INPUT()", "a name is missing after the opening bracket"),
-        ("INPUT(", "a name is missing after the opening bracket"),
         ("y = NOT( )", "a name is missing after the opening bracket"),
     ]);
     for (line, place) in [
@@ -424,7 +431,7 @@ fn several_faults() {
     unread(&[
         (
             "y_1 = NADN(a, b_1",
-            "the name y_1 has a _, as other tools write it: \
+            "the name y_1 has a '_', as other tools write it: \
              a name has letters and digits alone, so this one has to be changed",
         ),
         (
@@ -437,11 +444,11 @@ fn several_faults() {
         ),
         (
             "y = NAND(a, b;",
-            "the name b; has a ;: a name has letters and digits alone",
+            "the name b; has a ';': a name has letters and digits alone",
         ),
         (
             "y = NAND(a;",
-            "the name a; has a ;: a name has letters and digits alone",
+            "the name a; has a ';': a name has letters and digits alone",
         ),
         ("y = NAND(a", "the closing bracket is missing"),
     ]);

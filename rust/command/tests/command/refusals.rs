@@ -190,7 +190,7 @@ mod of_a_file {
     fn text_as_a_file() {
         let ended = run_on(b"INPUT(a)\nb = NOT(a)\n", &["read", "-"]);
         let hint =
-            "\n  it is a text: a bench text has a name that ends in .bench, and --cells LIST\n";
+            "\n  it is a text: a bench text needs --cells LIST, and a name that ends in .bench, or standard input\n";
         assert!(ended.error.ends_with(hint), "{ended:?}");
         assert_eq!(ended.status, 1);
     }
@@ -354,7 +354,14 @@ mod of_a_text {
                                 or gives one that an earlier line gave";
         for (line, fault) in [
             ("c = NOT(d)", "no earlier line gives d"),
-            ("c = AND(a, b, c)", "no earlier line gives c"),
+            (
+                "c = AND(a, b, c)",
+                "no earlier line gives c, and a gate cannot feed itself",
+            ),
+            (
+                "d = NOT(c)",
+                "no earlier line gives c, but line 5 does: a gate stands after those that feed it",
+            ),
             (
                 "c = AND( a b , b)",
                 "no earlier line gives ab: blanks are skipped, so that a b is the name ab",

@@ -46,7 +46,9 @@ fn subcommands() {
 /// Help is asked for in several ways.
 #[test]
 fn help() {
-    assert_eq!(printed(&["help"]), printed(&["--help"]));
+    let whole = printed(&["--help"]);
+    assert_eq!(printed(&["help"]), whole);
+    assert_eq!(printed(&["help", "help"]), whole);
     assert_eq!(printed(&["help", "search"]), printed(&["search", "--help"]));
     assert_eq!(
         printed(&["search", BLOCK, "-h"]),
@@ -242,8 +244,19 @@ fn cell_lists() {
     );
     wrong_list(
         "OR",
+        "OR 0 1 1 1 1 1\nBUFF 0 1 1 1 1 1",
+        "line 14 gives BUF a second time",
+    );
+    wrong_list(
+        "NOT",
+        "INV 0 1 1 1 1 1",
+        "there is no kind INV; here it is called NOT\n  line 12: INV 0 1 1 1 1 1",
+    );
+    wrong_list(
+        "OR",
         "INPUT 0 1 1 1 1 1",
-        "it begins with no kind of gate\n  line 8: INPUT 0 1 1 1 1 1",
+        "there is no kind INPUT; the kinds are AND, NAND, OR, NOR, XOR, XNOR, NOT, BUF and BUFF\n  \
+         line 8: INPUT 0 1 1 1 1 1",
     );
     wrong_list(
         "OR",
@@ -253,12 +266,16 @@ fn cell_lists() {
     wrong_list(
         "OR",
         "OR 0 256 1 1 1 1",
-        &format!("a delay is not in its range: {RANGES}\n  line 8: OR 0 256 1 1 1 1"),
+        &format!(
+            "256 is no delay, which is a whole number in its range: {RANGES}\n  line 8: OR 0 256 1 1 1 1"
+        ),
     );
     wrong_list(
         "OR",
-        "OR 0 1 1 1 1 65536",
-        &format!("a peak hl is not in its range: {RANGES}\n  line 8: OR 0 1 1 1 1 65536"),
+        "OR 0 1 1 1 1 8.5",
+        &format!(
+            "8.5 is no peak hl, which is a whole number in its range: {RANGES}\n  line 8: OR 0 1 1 1 1 8.5"
+        ),
     );
 }
 
