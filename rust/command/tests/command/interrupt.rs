@@ -6,7 +6,7 @@ use std::process::{Child, Command, Stdio};
 use std::thread;
 use std::time::{Duration, Instant};
 
-use crate::run::{command, scratch};
+use crate::run::{root, scratch};
 
 /// The number of the signal, and its place among those that a process handles.
 const SIGINT: i32 = 2;
@@ -26,7 +26,12 @@ fn handles_interrupts(child: &Child) -> bool {
 fn of_a_search() {
     let path = scratch("interrupted.csv");
     let search = ["search", "examples/adder24.blk", "--budget", "10000"];
-    let child = command(&[&search[..], &["--csv", &path]].concat())
+    // Interrupts are as a person at a terminal has them, even where these tests run in the background.
+    let child = Command::new("env")
+        .args(["--default-signal=INT", env!("CARGO_BIN_EXE_zimgurav")])
+        .args(search)
+        .args(["--csv", &path])
+        .current_dir(root())
         .stdin(Stdio::null())
         .stdout(Stdio::piped())
         .stderr(Stdio::piped())
