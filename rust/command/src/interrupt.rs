@@ -1,5 +1,5 @@
-//! Signals that end the command, Ctrl-C on a terminal among them: during a call they end it with a sentence, and while a
-//! file is written they wait until it is whole or given up.
+//! Signals that end the command: Ctrl-C during a call ends it with a sentence, and while a file is written all of them
+//! wait until it is whole or given up.
 
 use std::ffi::{c_int, c_void};
 use std::io::{self, IsTerminal};

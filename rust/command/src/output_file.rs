@@ -87,10 +87,11 @@ fn replace(path: &Path, contents: &[u8]) -> Result<(), String> {
 }
 
 /// Puts the contents into a file, with the permissions of the file that it replaces and, where that is allowed, its
-/// owner.
+/// group and its owner.
 fn fill(mut file: &File, contents: &[u8], replaced: &Path) -> io::Result<()> {
     if let Ok(metadata) = fs::metadata(replaced) {
-        let _ = fchown(file, Some(metadata.uid()), Some(metadata.gid()));
+        let _ = fchown(file, None, Some(metadata.gid()));
+        let _ = fchown(file, Some(metadata.uid()), None);
         file.set_permissions(Permissions::from_mode(metadata.mode() & 0o777))?;
     }
     file.write_all(contents)?;
