@@ -7,7 +7,7 @@ use zimgurav::{
 use crate::arguments::Arguments;
 use crate::block::Block;
 use crate::failure::Failure;
-use crate::number::grouped;
+use crate::number::counted;
 use crate::options::{BUDGET, HOP_LIMIT, RATIO};
 use crate::pattern::Pattern;
 use crate::progress;
@@ -36,10 +36,10 @@ impl Setting {
     /// The refusal of an argument, with its value.
     fn refused(&self, block: &Block, refusal: Refusal) -> Failure {
         let standing = match refusal.number {
-            refused::HOP_LIMIT => format!("the hop limit is {}", self.hop_limit),
+            refused::HOP_LIMIT => format!("the hop limit is {}", counted(self.hop_limit, "run")),
             refused::TABLE => format!("the table is {}", self.table.words),
-            refused::RATIO => format!("the ratio is {}", grouped(self.ratio)),
-            refused::BUDGET => format!("the budget is {}", grouped(self.budget)),
+            refused::RATIO => format!("the ratio is {}", counted(self.ratio, "thousandth")),
+            refused::BUDGET => format!("the budget is {}", counted(self.budget, "split")),
             _ => String::new(),
         };
         Failure::refused(&block.name, refusal, None, &standing)

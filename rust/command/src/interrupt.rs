@@ -40,7 +40,7 @@ pub fn during_a_call<Answer>(call: impl FnOnce() -> Answer) -> Answer {
 
 /// Writes a file. A signal that would end the command ends it afterwards, and a file that grows above the size that is
 /// allowed is a failure like others.
-pub fn after_a_write<Answer>(write: impl FnOnce() -> Answer) -> Answer {
+pub fn during_a_write<Answer>(write: impl FnOnce() -> Answer) -> Answer {
     let ending = [SIGINT, SIGTERM, SIGHUP].map(|number| (number, handle(number, postpone)));
     let size = set(SIGXFSZ, IGNORED);
     let answer = write();

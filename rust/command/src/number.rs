@@ -20,6 +20,10 @@ pub fn microamperes(current: Word) -> String {
     format!("{} µA", grouped(current))
 }
 
+// In nanovolts.
+const MICROVOLT: u64 = 1_000;
+const MILLIVOLT: u64 = 1_000_000;
+
 /// A drop with its unit and, from a microvolt on, in a larger one too: `11,617 nV (11.617 µV)`.
 pub fn nanovolts(drop: u64) -> String {
     let nanovolts = format!("{} nV", grouped(drop));
@@ -37,10 +41,6 @@ pub fn volts(drop: u64) -> String {
         MILLIVOLT.. => format!("{} mV", decimal(drop, 6)),
     }
 }
-
-/// In nanovolts.
-const MICROVOLT: u64 = 1_000;
-const MILLIVOLT: u64 = 1_000_000;
 
 /// A number with its last digits after the point, without the zeros at its end: `11,617.02`.
 fn decimal(number: u64, places: usize) -> String {

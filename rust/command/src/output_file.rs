@@ -73,7 +73,7 @@ fn place(path: &Path) -> Result<Place, String> {
 /// Writes a file beside the place and gives it the place's name, which so has the old file or the new one at every
 /// moment, whole, even where the disk is full or the command is ended.
 fn replace(path: &Path, contents: &[u8]) -> Result<(), String> {
-    interrupt::after_a_write(|| {
+    interrupt::during_a_write(|| {
         let unmade = |error| format!("no file can be made in its folder: {}", fault(error));
         let (temporary, file) = temporary(folder(path)).map_err(unmade)?;
         let filled = fill(&file, contents, path);

@@ -28,7 +28,7 @@ const SENTENCES: [&str; 42] = [
     "; the nearest are AND and NAND",
     "; here it is called NOT",
     ": a block has no latches",
-    ": a block has no constants",
+    ": a constant is an input, whose set",
     "; the kinds are AND, NAND, OR, NOR, XOR, XNOR, NOT, BUF and BUFF",
     "there is no form",
     "a name and = are missing before",

@@ -15,7 +15,10 @@ const OF_OTHER_TOOLS: [(&[&str], &str); 6] = [
     (&["EXOR", "EOR"], "; here it is called XOR"),
     (&["EXNOR", "ENOR", "NXOR"], "; here it is called XNOR"),
     (&["DFF", "DLATCH", "LATCH"], ": a block has no latches"),
-    (&["GND", "VSS", "VDD", "VCC"], ": a block has no constants"),
+    (
+        &["GND", "VSS", "VDD", "VCC"],
+        ": a constant is an input, whose set in the block file ties it low or high",
+    ),
 ];
 
 /// The words of the kinds; BUFF is BUF.

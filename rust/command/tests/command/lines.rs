@@ -98,7 +98,7 @@ fn kinds() {
             "y = LATCH(a)",
             "there is no kind LATCH: a block has no latches",
         ),
-        ("y = gnd", "there is no kind gnd: a block has no constants"),
+        ("y = gnd", "there is no kind gnd: a constant is an input, whose set in the block file ties it low or high"),
         ("y = (a, b)", "a kind is missing after ="),
         ("y =", "a kind is missing after ="),
     ]);

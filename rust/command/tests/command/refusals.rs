@@ -231,7 +231,7 @@ mod of_arguments {
                 &[subcommand, "--hop-limit", "17"],
                 &[
                     "examples/block_f.blk: refused 11: the hop limit is not 1 to 16",
-                    "the hop limit is 17",
+                    "the hop limit is 17 runs",
                 ],
             );
         }
@@ -257,7 +257,7 @@ mod of_arguments {
             &["search", "--ratio", "999"],
             &[
                 "examples/block_f.blk: refused 13: the ratio is not 1,000 to 10,000",
-                "the ratio is 999",
+                "the ratio is 999 thousandths",
             ],
         );
     }
@@ -269,7 +269,7 @@ mod of_arguments {
             &["search", "--budget", "18446744073709551615"],
             &[
                 "examples/block_f.blk: refused 14: the budget is above 10,000",
-                "the budget is 18,446,744,073,709,551,615",
+                "the budget is 18,446,744,073,709,551,615 splits",
             ],
         );
     }
