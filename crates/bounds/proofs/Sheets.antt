@@ -1,7 +1,6 @@
 -- Laws of the sheet of a search: a case drawn, a sheet raised to another, and the greatest over the cases drawn so far.
 -- Assumes nothing.
 use Prim.Native.Nat.{ℕ, _+_, _*_, _/_, _%_, _≤_, _<_, max}
-use mathlib.Core.Bool.{Bool, true, false}
 use mathlib.Core.List.{List}
 use mathlib.Core.Logic.{inr}
 use mathlib.Core.Path.{_≡_, ap, sym, _∙_}
@@ -12,47 +11,29 @@ use Rattle.laws.specs.Below.{maxBelow}
 use Rattle.laws.specs.Rewritten.{Rewritten}
 use Rattle.laws.proofs.Below.{max-next, max-same}
 use Rattle.laws.proofs.Rewritten.{rewritten-next, rewritten-first}
-use Rattle.excitation.specs.UncertaintySet.{setsIn}
 use Rattle.block.specs.Record.{File}
-use Rattle.operation.specs.declared.Currents.{Currents}
 use Rattle.sheet.specs.Sheet.{Sheet, sheetWords}
 use Rattle.sheet.specs.Words.{Cleared}
 use Rattle.sheet.proofs.Sheets.{word-is, sheet-long, sheet-is}
-use Rattle.evaluation.specs.Evaluation.{simulatedSheet, envelopeSheet, sheetFor, Evaluated}
+use Rattle.evaluation.specs.Evaluation.{simulatedSheet, envelopeSheet}
 use Rattle.evaluation.specs.declared.Setting.{Setting}
-use Rattle.simulator.specs.Simulate.{SinglesEvaluated}
-use Rattle.cases.specs.Case.{Case, decided, evaluationOf}
-use Rattle.cases.specs.Records.{casesIn, caseIn, SetCodes}
+use Rattle.cases.specs.Case.{Case, evaluationOf}
+use Rattle.cases.specs.Records.{casesIn, caseIn}
 use Rattle.cases.specs.Search.{setsAt, casesSheet}
-use Rattle.cases.proofs.Cases.{evaluation-decided, evaluation-undecided}
 use Rattle.cases.proofs.Records.{sets-copied, cases-long, sets-at}
-use Rattle.cases.proofs.Singles.{decided-sets}
-use Rattle.bounds.specs.Bounds.{sheetOver}
+use Rattle.bounds.specs.Bounds.{sheetOver, CaseEvaluated}
 
 -- The sheet of case k of a store.
 abbrev pub sheetOfCase : File → ℕ → ℕ → List ℕ → ℕ → Sheet
 sheetOfCase file hops inputs store k = evaluationOf (simulatedSheet file) (envelopeSheet hops file) (caseIn inputs store k .sets)
 
--- A case drawn, from its sets as they were copied from the store: its simulation where every input is decided, else its envelope.
-
-module _ (file : File) (setting : Setting) (few : setting .inputs ≤ 64) (store : List ℕ) (k : ℕ) {given codes : List ℕ}
-    (copied : Rewritten (λ j. getD store (72 * k + j) 0) 0 64 given codes) {r : Bool} (test : r ≡ decided (setsIn (setting .inputs) codes)) where
-  case-copied : evaluationOf (simulatedSheet file) (envelopeSheet (setting .hops) file) (setsIn (setting .inputs) codes)
-      ≡ sheetOfCase file (setting .hops) (setting .inputs) store k
-  case-copied = ap (evaluationOf (simulatedSheet file) (envelopeSheet (setting .hops) file)) (sets-copied (setting .inputs) few store k given codes copied)
-
-  pub case-simulated : {table sheet : List ℕ} {currents : Currents} → r ≡ true → SetCodes (setting .inputs) codes
-      → SinglesEvaluated file setting codes table currents sheet → sheet ≡ sheetWords (sheetOfCase file (setting .hops) (setting .inputs) store k)
-  case-simulated t coded e =
-      let d = sym test ∙ t in
-      e _ (decided-sets (setting .inputs) codes coded d) .written
-      ∙ ap sheetWords (sym (evaluation-decided (simulatedSheet file) (envelopeSheet (setting .hops) file) (setsIn (setting .inputs) codes) d) ∙ case-copied)
-
-  pub case-enveloped : {table sheet : List ℕ} {currents : Currents} → r ≡ false → Evaluated table (sheetFor file setting codes) currents sheet
-      → sheet ≡ sheetWords (sheetOfCase file (setting .hops) (setting .inputs) store k)
-  case-enveloped t e =
-      e .written
-      ∙ ap sheetWords (sym (evaluation-undecided (simulatedSheet file) (envelopeSheet (setting .hops) file) (setsIn (setting .inputs) codes) (sym test ∙ t)) ∙ case-copied)
+-- A case drawn, from its sets as they were copied from the store.
+pub case-drawn : (file : File) (setting : Setting) → setting .inputs ≤ 64 → (store : List ℕ) (k : ℕ) {given codes table : List ℕ} {upper : ℕ} {sheet : List ℕ}
+    → Rewritten (λ j. getD store (72 * k + j) 0) 0 64 given codes → CaseEvaluated file setting table codes upper sheet
+    → sheet ≡ sheetWords (sheetOfCase file (setting .hops) (setting .inputs) store k)
+case-drawn file setting few store k {given} {codes} copied evaluated =
+    evaluated .written
+    ∙ ap (λ case. sheetWords (evaluationOf (simulatedSheet file) (envelopeSheet (setting .hops) file) case)) (sets-copied (setting .inputs) few store k given codes copied)
 
 -- A sheet raised to another, word by word.
 

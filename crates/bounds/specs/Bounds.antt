@@ -8,7 +8,7 @@ use Rattle.excitation.specs.UncertaintySet.{setsIn}
 use Rattle.excitation.specs.declared.Excitation.{Excitation}
 use Rattle.block.specs.Limits.{dropLimit}
 use Rattle.block.specs.Record.{File}
-use Rattle.sheet.specs.Sheet.{Sheet, dropOf}
+use Rattle.sheet.specs.Sheet.{Sheet, sheetWords, dropOf}
 use Rattle.evaluation.specs.Evaluation.{simulatedSheet, envelopeSheet}
 use Rattle.evaluation.specs.declared.Setting.{Setting}
 use Rattle.cases.specs.Case.{Case, probe, evaluationOf}
@@ -38,6 +38,12 @@ probeDrop file setting table codes = simulatedDrop file table (probe (setsIn (se
 -- The upper number before the cap of the case with these codes.
 abbrev pub upperOf : File → Setting → List ℕ → List ℕ → ℕ
 upperOf file setting table codes = ownUpper file (setting .hops) table (setsIn (setting .inputs) codes)
+
+-- A case evaluated: its upper number before the cap, and its sheet.
+pub record CaseEvaluated (file : File) (setting : Setting) (table codes : List ℕ) (upper : ℕ) (sheet : List ℕ) : Type 0 where
+  pub is : upper ≡ upperOf file setting table codes
+  pub low : upper < dropLimit
+  pub written : sheet ≡ sheetWords (evaluationOf (simulatedSheet file) (envelopeSheet (setting .hops) file) (setsIn (setting .inputs) codes))
 
 -- A case made: its record, and the best probe. A probe is the best so far where its drop reaches the threshold, which is 0 before the
 -- first case and L + 1 afterwards.

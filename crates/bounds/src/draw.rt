@@ -8,8 +8,8 @@ ghost use Rattle.cases.specs.Case.{evaluationOf};
 ghost use Rattle.cases.specs.Records.{casesIn, caseIn, HasCases, HasCase, SetCodes};
 ghost use Rattle.evaluation.specs.Evaluation.{simulatedSheet, envelopeSheet, Evaluable};
 ghost use Rattle.bounds.specs.Bounds.{sheetOver};
+use super::evaluate;
 use cases::CaseNumber;
-use cases::sets;
 use cases::store;
 use evaluation::Setting;
 use sheet::Word;
@@ -41,11 +41,7 @@ fn draw_case(
 {
     let mut codes = [0u8; 64];
     store::read_sets(store, k, &mut codes);
-    if sets::is_decided(&codes, setting.inputs) {
-        simulator::evaluate_singles(file, setting, &codes, table, sheet, work);
-        return;
-    }
-    evaluation::evaluate(file, setting, &codes, table, sheet, work);
+    evaluate::evaluate_case(file, setting, table, &codes, sheet, work);
 }
 
 // Draws the sheet over the first n cases.

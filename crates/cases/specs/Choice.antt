@@ -1,7 +1,8 @@
--- The choice of the input to split (document 01, "Search").
+-- The choice of the input to split: by a list of inputs (request 6), and by cone (document 01, "Search"), which the list that the first
+-- maker makes gives too.
 use Prim.Native.Nat.{ℕ, suc}
 use mathlib.Core.Bool.{cond}
-use mathlib.Core.List.{List}
+use mathlib.Core.List.{List, [], _∷_}
 use lib.ListN.{length, getD}
 use Rattle.laws.specs.Below.{argmax}
 use Rattle.laws.specs.Turn.{listBelow}
@@ -10,7 +11,12 @@ use Rattle.block.specs.Block.{inputCount, coneSize}
 use Rattle.block.specs.Record.{File}
 use Rattle.cases.specs.Case.{Case, undecided}
 
--- How many gates stand in document 01's fan-out cone of each input.
+-- Request 6: the first undecided input of a case in the list's order, 0 where there is none.
+unfoldable pub firstUndecided : List ℕ → Case → ℕ
+firstUndecided [] case = 0
+firstUndecided (net ∷ rest) case = cond (undecided (getD case net empty)) net (firstUndecided rest case)
+
+-- Document 01. How many gates stand in its fan-out cone of each input.
 unfoldable pub coneSizes : File → List ℕ
 coneSizes file = listBelow (inputCount file) (coneSize file)
 

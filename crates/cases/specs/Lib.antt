@@ -3,6 +3,6 @@ pub mod Search
 pub mod Probes
 pub mod Promise
 pub mod Choice
-pub mod Reach
+pub mod SplitOrder
 pub mod Store
 pub mod Records

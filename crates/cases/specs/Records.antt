@@ -2,9 +2,10 @@
 use Prim.Native.Nat.{ℕ, _+_, _*_, _≤_, _<_}
 use mathlib.Core.List.{List, _++_}
 use mathlib.Core.Path.{_≡_}
-use lib.ListN.{length, getD, drop}
+use lib.ListN.{length, getD, drop, set}
 use Rattle.laws.specs.Turn.{listBelow}
-use Rattle.excitation.specs.UncertaintySet.{setsIn}
+use Rattle.excitation.specs.Excitation.{excitationOf}
+use Rattle.excitation.specs.UncertaintySet.{code, single, setsIn}
 use Rattle.block.specs.Limits.{dropLimit}
 use Rattle.cases.specs.Search.{StoredCase}
 use Rattle.cases.specs.Store.{numberBytes}
@@ -36,6 +37,10 @@ pub record SetCodes (inputs : ℕ) (codes : List ℕ) : Type 0 where
   pub low : (net : ℕ) → net < inputs → 1 ≤ getD codes net 0
   pub high : (net : ℕ) → net < inputs → getD codes net 0 ≤ 15
   pub none : (j : ℕ) → inputs ≤ j → j < 64 → getD codes j 0 ≡ 0
+
+-- The bytes of a child's sets: those of its parent, but for the input that is split, which has one excitation.
+abbrev pub childCodes : List ℕ → ℕ → ℕ → List ℕ
+childCodes parent input e = set parent input (code (single (excitationOf e)))
 
 -- A store whose first n records are those of cases.
 pub record HasCases (inputs : ℕ) (store : List ℕ) (n : ℕ) : Type 0 where

@@ -6,7 +6,10 @@ ghost use Rattle.laws.specs.Rewritten.{Rewritten};
 ghost use Rattle.excitation.specs.Excitation.{byteOf};
 ghost use Rattle.excitation.specs.UncertaintySet.{code, decode, single, setsIn};
 ghost use Rattle.cases.specs.Store.{patternByte};
+ghost use Rattle.cases.specs.Records.{childCodes};
 ghost use Rattle.cases.specs.Case.{undecided, decided, firstAllowed, probe};
+use super::store;
+use block::Net;
 use excitation::Set;
 
 // Whether a set has more than one member.
@@ -71,4 +74,16 @@ pub fn write_probe(codes: &[u8], inputs: usize, pattern: &mut [u8])
         pattern[net] = first_allowed(codes[net]);
         net += 1;
     }
+}
+
+// The codes of a child's sets: those of its parent, but for the input that is split, whose set has the excitation of byte e alone.
+pub fn child_codes(parent: &[u8], input: Net, e: u8) -> [u8; 64]
+    requires { ⌜ (length (now parent) ≡ 64) × (input .0 < 64) ⌝ }
+    ensures { λ r. ⌜ r ≡ childCodes (now (parent .entry)) (input .0) e ⌝ }
+{
+    let net = input.0;
+    let mut codes = [0u8; 64];
+    store::copy(parent, 0, &mut codes, 0, 64);
+    codes[net] = excitation::single(excitation::excitation_of(e)).code;
+    codes
 }

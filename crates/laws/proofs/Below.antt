@@ -57,6 +57,12 @@ all-at (suc n) p k e h =
     ⊎-elim (λ (q : k ≡ n). rw q (and-right (allBelow n p) (p n) e)) (λ l. all-at n p k (and-left (allBelow n p) (p n) e) l)
     (eq-or-lt-of-le (le-of-suc-le-suc h))
 
+-- A test that passes at each number below n passes at all of them.
+pub all-passes : (n : ℕ) (p : ℕ → Bool) → ((k : ℕ) → k < n → p k ≡ true) → allBelow n p ≡ true
+unfolding allBelow
+all-passes zero p each = refl
+all-passes (suc n) p each = and-both (all-passes n p (λ k h. each k (omega arith))) (each n (omega arith))
+
 -- One failure fails the whole.
 pub all-fails : (n : ℕ) (p : ℕ → Bool) (k : ℕ) → k < n → p k ≡ false → allBelow n p ≡ false
 unfolding allBelow

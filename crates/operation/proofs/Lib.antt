@@ -1,3 +1,4 @@
 pub mod Sizes
 pub mod Patterns
+pub mod SplitOrders
 pub mod Operations

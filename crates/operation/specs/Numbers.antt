@@ -8,6 +8,8 @@ use Rattle.block.specs.declared.ReadAnswer.the-variants as read-answer
 use Rattle.block.specs.declared.Refusal.{Refusal}
 use Rattle.operation.specs.declared.CurrentsAnswer.{CurrentsAnswer}
 use Rattle.operation.specs.declared.CurrentsAnswer.the-variants as currents-answer
+use Rattle.operation.specs.declared.OrderAnswer.{OrderAnswer}
+use Rattle.operation.specs.declared.OrderAnswer.the-variants as order-answer
 use Rattle.operation.specs.declared.Outcome.{Outcome}
 use Rattle.operation.specs.declared.Outcome.the-variants.{Exact, Within, Spent}
 use Rattle.operation.specs.declared.SearchAnswer.{SearchAnswer}
@@ -42,3 +44,8 @@ abbrev pub searchNumbers : SearchAnswer → List ℕ
 searchNumbers (search-answer.Found found) =
     eight (0 ∷ outcomeNumber (found .outcome) ∷ found .upper ∷ found .lower ∷ found .splits ∷ found .cases ∷ found .quiet ∷ [])
 searchNumbers (search-answer.Refused r) = refusalNumbers r
+
+-- A maker of a list of inputs: how many inputs it names.
+abbrev pub orderNumbers : OrderAnswer → List ℕ
+orderNumbers (order-answer.Made made) = eight (0 ∷ made .inputs ∷ [])
+orderNumbers (order-answer.Refused r) = refusalNumbers r

@@ -3,6 +3,7 @@ use block::Refusal;
 
 pub mod arguments;
 pub mod pattern;
+pub mod split_order;
 
 // What Envelope and Simulate find: the drop of their sheet in nanovolts, and its quiet tick, the last at which current flows.
 pub struct Currents {
@@ -36,5 +37,17 @@ pub struct Found {
 // What Search answers.
 pub enum SearchAnswer {
     Found(Found),
+    Refused(Refusal),
+}
+
+// The inputs of a block in the order to be split: how many there are, and a byte for each of them, its net; 0 past them.
+pub struct SplitOrder {
+    pub inputs: u64,
+    pub nets: [u8; 64],
+}
+
+// What a maker of such a list answers.
+pub enum OrderAnswer {
+    Made(SplitOrder),
     Refused(Refusal),
 }

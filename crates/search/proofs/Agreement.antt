@@ -15,6 +15,7 @@ use Rattle.block.specs.Verdict.{verdict}
 use Rattle.block.specs.declared.Verdict.{Verdict}
 use Rattle.block.specs.declared.Verdict.the-variants as verdict-is
 use Rattle.block.proofs.Accepted.{accepted}
+use Rattle.block.proofs.Frames.{frame-long}
 use Rattle.block.proofs.Verdicts.{all-passed, more, stays-accepted, both-accepted, accepted-first}
 use Rattle.operation.specs.Operation.{answerAfter, bufferAfter}
 use Rattle.operation.specs.Pattern.{byteChecks}
@@ -29,17 +30,17 @@ use Rattle.sheet.proofs.QuietTick.{quiet-no-later}
 use Rattle.sheet.proofs.Sheets.{words-at-most}
 use Rattle.evaluation.specs.Evaluation.{simulatedSheet, envelopeSheet, currentsOf}
 use Rattle.envelope.proofs.Soundness.{soundness}
-use Rattle.cases.specs.Choice.{coneSizes}
+use Rattle.cases.specs.Choice.{firstUndecided}
 use Rattle.cases.specs.Promise.{Right}
 use Rattle.cases.specs.Search.{SearchEnd, outcomeOf}
 use Rattle.cases.specs.Store.{patternWith}
-use Rattle.cases.proofs.Chosen.{chosen-undecided}
+use Rattle.cases.proofs.SplitOrder.{list-chooses}
 use Rattle.cases.proofs.Outcomes.{is-exact, is-within, is-spent, Says, says}
 use Rattle.cases.proofs.Right.{search-right, sheet-above}
 use Rattle.simulator.specs.Simulate.{SimulateArguments, sizeChecks, simulateVerdict, patternSheet, givenSheet, Simulated}
 use Rattle.bounds.specs.Bounds.{simulatedDrop, envelopeDrop}
 use Rattle.search.specs.Agreement.{sharing, Agrees, Agreement}
-use Rattle.search.specs.Search.{SearchArguments, chooseIn, searchOf, searchVerdict, finalSheet, foundBy, searchAnswerAfter, Searched}
+use Rattle.search.specs.Search.{SearchArguments, searchOf, searchVerdict, finalSheet, foundBy, searchAnswerAfter, Searched}
 use Rattle.search.proofs.Accepted.{ArgumentsRight, arguments-right}
 use Rattle.search.proofs.Frame.{frame-probe, pattern-room, pattern-back, pattern-passes}
 
@@ -77,7 +78,7 @@ simulation-accepted {given} {told} s =
 record AcceptedSearch (given : SearchArguments) (found : Found) (sheet pattern : List ℕ) : Type 0 where
   file-accepted : AcceptedFile (given .file) (netCount (given .file)) (inputCount (given .file))
   read-passed : verdict (readChecks (given .file)) ≡ verdict-is.Accepted
-  arguments : ArgumentsRight (netCount (given .file)) (given .hops) (length (given .table)) (given .ratio) (given .budget) (length (given .sheet))
+  arguments : ArgumentsRight (netCount (given .file)) (inputCount (given .file)) (given .hops) (length (given .table)) (given .ratio) (given .budget) (given .order) (length (given .sheet))
       (length (given .pattern)) (length (given .work)) (length (given .store))
   found-is : found ≡ foundBy given
   sheet-is : sheet ≡ sheetWords (finalSheet given)
@@ -96,7 +97,7 @@ search-accepted given found sheet′ pattern′ work′ store′ s =
     record {
       file-accepted = read-accepted (given .file) (both .0);
       read-passed = both .0;
-      arguments = arguments-right _ _ _ _ _ _ _ _ _ (both .1);
+      arguments = arguments-right _ _ _ _ _ _ _ _ _ _ _ (both .1);
       found-is = is .1;
       sheet-is = s .sheet-written ∙ ap (λ v. bufferAfter v (sheetWords (finalSheet given)) (given .sheet)) (is .0);
       pattern-is = s .pattern-written ∙ ap (λ v. bufferAfter v (patternWith (searchOf given .state .best .pattern) (given .pattern)) (given .pattern)) (is .0);
@@ -112,9 +113,9 @@ module _ (given : SearchArguments) (found : Found) (sheet pattern : List ℕ) (e
   right : Right (simulatedDrop file (given .table)) (given .ratio) (given .budget) (frame file) end
   unfolding searchOf
   right =
-      search-right (simulatedDrop file (given .table)) (envelopeDrop file (given .hops) (given .table)) (chooseIn file) (given .ratio) (given .budget) (frame file)
+      search-right (simulatedDrop file (given .table)) (envelopeDrop file (given .hops) (given .table)) (firstUndecided (given .order)) (given .ratio) (given .budget) (frame file)
       (λ pattern case choice. soundness file .drops-no-more (given .hops) choice (given .table))
-      (chosen-undecided (coneSizes file))
+      (list-chooses (given .order) (rw (frame-long file) (ended .arguments .order-right)))
       (frame-probe file (netCount file) (inputCount file) (ended .file-accepted))
 
   upper-is : found .upper ≡ foundBy given .upper

@@ -24,13 +24,14 @@ use Rattle.operation.proofs.Operations.{by-file, by-arguments}
 use Rattle.sheet.specs.Sheet.{sheetWords, sheetIn, quietTick}
 use Rattle.sheet.proofs.Sheets.{quiet-of-words}
 use Rattle.evaluation.specs.declared.Setting.{Setting}
+use Rattle.cases.specs.Choice.{firstUndecided}
 use Rattle.cases.specs.Records.{casesIn}
 use Rattle.cases.specs.Search.{greatestUpper, searchFrom, search}
 use Rattle.cases.specs.Store.{storeWith, patternWith}
 use Rattle.cases.proofs.Bytes.{store-is, pattern-is}
 use Rattle.cases.proofs.Records.{cases-long}
 use Rattle.bounds.specs.Bounds.{simulatedDrop, envelopeDrop, sheetOver}
-use Rattle.search.specs.Search.{SearchArguments, chooseIn, searchOf, argumentChecks, searchVerdict, finalSheet, foundBy, searchAnswerAfter, Searched}
+use Rattle.search.specs.Search.{SearchArguments, searchOf, argumentChecks, searchVerdict, finalSheet, foundBy, searchAnswerAfter, Searched}
 use Rattle.search.specs.declared.run.RunEnd.{RunEnd}
 use Rattle.search.specs.Steps.{bestIn, stateIn, PastKept, FirstMade, Ran, BlockSearched}
 use Rattle.search.proofs.Running.{past-kept}
@@ -39,13 +40,13 @@ use Rattle.search.proofs.Running.{past-kept}
 module _ (given : SearchArguments) {setting : Setting} (accepted : AcceptedFile (given .file) (setting .nets) (setting .inputs)) (hops-are : setting .hops ≡ given .hops)
     {threshold : ℕ} {store′ pattern′ store″ pattern″ : List ℕ} {ended : RunEnd}
     (first : FirstMade (given .file) setting (given .table) (given .store) (given .pattern) threshold store′ pattern′)
-    (ran : Ran (given .file) setting (given .table) (given .ratio) (given .budget) (stateIn (setting .inputs) 1 threshold store′ pattern′) store′ pattern′ ended store″ pattern″) where
+    (ran : Ran (given .file) setting (given .table) (given .order) (given .ratio) (given .budget) (stateIn (setting .inputs) 1 threshold store′ pattern′) store′ pattern′ ended store″ pattern″) where
   end-is : ran .end ≡ searchOf given
   unfolding searchOf search
   end-is =
       ran .is
-      ∙ ap (searchFrom (simulatedDrop (given .file) (given .table)) (envelopeDrop (given .file) (setting .hops) (given .table)) (chooseIn (given .file)) (given .ratio) (given .budget) 0) (first .state)
-      ∙ ap (λ hops. search (simulatedDrop (given .file) (given .table)) (envelopeDrop (given .file) hops (given .table)) (chooseIn (given .file)) (given .ratio) (given .budget) (frame (given .file))) hops-are
+      ∙ ap (searchFrom (simulatedDrop (given .file) (given .table)) (envelopeDrop (given .file) (setting .hops) (given .table)) (firstUndecided (given .order)) (given .ratio) (given .budget) 0) (first .state)
+      ∙ ap (λ hops. search (simulatedDrop (given .file) (given .table)) (envelopeDrop (given .file) hops (given .table)) (firstUndecided (given .order)) (given .ratio) (given .budget) (frame (given .file))) hops-are
 
   cases-held : casesIn (setting .inputs) store″ (ended .cases) ≡ ran .end .state .cases
   unfolding stateIn
@@ -103,7 +104,7 @@ module _ (given : SearchArguments) {setting : Setting} (accepted : AcceptedFile 
 module _ (given : SearchArguments) {read : ReadAnswer} (is : read ≡ readOf (given .file)) where
   abbrev checks : ℕ → ℕ → List Check
   checks nets inputs =
-      argumentChecks nets (given .hops) (length (given .table)) (given .ratio) (given .budget) (length (given .sheet)) (length (given .pattern))
+      argumentChecks nets inputs (given .hops) (length (given .table)) (given .ratio) (given .budget) (given .order) (length (given .sheet)) (length (given .pattern))
       (length (given .work)) (length (given .store))
 
   -- What Search promises, by the verdict.

@@ -12,6 +12,7 @@ use Rattle.block.specs.Record.{File}
 use Rattle.operation.specs.declared.Outcome.{Outcome}
 use Rattle.operation.specs.declared.Outcome.the-variants.{Exact, Within, Spent}
 use Rattle.evaluation.specs.declared.Setting.{Setting}
+use Rattle.cases.specs.Choice.{firstUndecided}
 use Rattle.cases.specs.Probes.{ProbesCovered}
 use Rattle.cases.specs.Records.{upperIn}
 use Rattle.cases.specs.Search.{State, searchFrom}
@@ -19,7 +20,6 @@ use Rattle.cases.proofs.Records.{next-split, greatest-upper}
 use Rattle.cases.proofs.Probes.{split-covered}
 use Rattle.cases.proofs.Outcomes.{stop-exact, stop-within, stop-spent, goes-on}
 use Rattle.bounds.specs.Bounds.{simulatedDrop, envelopeDrop}
-use Rattle.search.specs.Search.{chooseIn}
 use Rattle.search.specs.declared.run.RunEnd.{RunEnd}
 use Rattle.search.specs.Steps.{Running, PastKept, CaseToSplit, CaseSplit, Ran, bestIn, stateIn}
 
@@ -35,11 +35,11 @@ past-kept more first second = record {
 }
 
 -- Where a search stands before a split, after so many splits: what is left of it is what is left of the search from the first case on.
-pub record Reached (file : File) (setting : Setting) (table : List ℕ) (ratio budget threshold : ℕ) (store pattern : List ℕ)
+pub record Reached (file : File) (setting : Setting) (table order : List ℕ) (ratio budget threshold : ℕ) (store pattern : List ℕ)
     (n best splits : ℕ) (store′ pattern′ : List ℕ) : Type 0 where
-  pub rest : searchFrom (simulatedDrop file table) (envelopeDrop file (setting .hops) table) (chooseIn file) ratio (budget - splits) splits
+  pub rest : searchFrom (simulatedDrop file table) (envelopeDrop file (setting .hops) table) (firstUndecided order) ratio (budget - splits) splits
       (stateIn (setting .inputs) n best store′ pattern′)
-      ≡ searchFrom (simulatedDrop file table) (envelopeDrop file (setting .hops) table) (chooseIn file) ratio budget 0 (stateIn (setting .inputs) 1 threshold store pattern)
+      ≡ searchFrom (simulatedDrop file table) (envelopeDrop file (setting .hops) table) (firstUndecided order) ratio budget 0 (stateIn (setting .inputs) 1 threshold store pattern)
   pub running : Running (setting .inputs) n best store′ pattern′
   pub covered : ProbesCovered (simulatedDrop file table) (stateIn (setting .inputs) n best store′ pattern′)
   pub past : PastKept (setting .inputs) n store pattern store′ pattern′
@@ -47,9 +47,9 @@ pub record Reached (file : File) (setting : Setting) (table : List ℕ) (ratio b
   pub few : n ≤ 1 + 3 * splits
 
 -- The search begins with one case and no split.
-pub reached-first : {file : File} {setting : Setting} {table : List ℕ} {ratio budget threshold : ℕ} {store pattern : List ℕ}
+pub reached-first : {file : File} {setting : Setting} {table order : List ℕ} {ratio budget threshold : ℕ} {store pattern : List ℕ}
     → Running (setting .inputs) 1 threshold store pattern → ProbesCovered (simulatedDrop file table) (stateIn (setting .inputs) 1 threshold store pattern)
-    → Reached file setting table ratio budget threshold store pattern 1 threshold 0 store pattern
+    → Reached file setting table order ratio budget threshold store pattern 1 threshold 0 store pattern
 reached-first {budget = budget} running covered =
     let e : budget - 0 ≡ budget = omega arith in
     record {
@@ -62,8 +62,8 @@ reached-first {budget = budget} running covered =
     }
 
 -- The children of a split have room in the store.
-pub split-room : {file : File} {setting : Setting} {table : List ℕ} {ratio budget threshold : ℕ} {store pattern : List ℕ} {n best splits : ℕ} {store′ pattern′ : List ℕ}
-    → Reached file setting table ratio budget threshold store pattern n best splits store′ pattern′ → (splits ≡ budget → ⊥) → budget ≤ 10000
+pub split-room : {file : File} {setting : Setting} {table order : List ℕ} {ratio budget threshold : ℕ} {store pattern : List ℕ} {n best splits : ℕ} {store′ pattern′ : List ℕ}
+    → Reached file setting table order ratio budget threshold store pattern n best splits store′ pattern′ → (splits ≡ budget → ⊥) → budget ≤ 10000
     → 72 * (1 + 3 * budget) ≤ length store → (72 * (n + 3) ≤ length store′) × (n + 3 ≤ 30001)
 split-room reached left few long =
     (omega (arith, reached .afforded, reached .few, reached .past .store-long), omega (arith, reached .afforded, reached .few))
@@ -87,16 +87,16 @@ ratio-low ratio lower r l = let m : ratio * lower ≤ 10000 * lower = mul-le-mul
 
 -- A turn of the loop, by the checks before the split.
 
-module _ {file : File} {setting : Setting} {table : List ℕ} {ratio budget threshold : ℕ} {store pattern : List ℕ} {n best splits : ℕ}
-    {store′ pattern′ : List ℕ} (reached : Reached file setting table ratio budget threshold store pattern n best splits store′ pattern′)
+module _ {file : File} {setting : Setting} {table order : List ℕ} {ratio budget threshold : ℕ} {store pattern : List ℕ} {n best splits : ℕ}
+    {store′ pattern′ : List ℕ} (reached : Reached file setting table order ratio budget threshold store pattern n best splits store′ pattern′)
     {k upper : ℕ} (next : CaseToSplit (setting .inputs) n store′ k upper) where
   abbrev Ends : Outcome → Type 0
   Ends outcome =
-      Ran file setting table ratio budget (stateIn (setting .inputs) 1 threshold store pattern) store pattern
+      Ran file setting table order ratio budget (stateIn (setting .inputs) 1 threshold store pattern) store pattern
       (record { outcome = outcome; upper = upper; lower = best - 1; splits = splits; cases = n }) store′ pattern′
 
   ends : (outcome : Outcome)
-      → searchFrom (simulatedDrop file table) (envelopeDrop file (setting .hops) table) (chooseIn file) ratio (budget - splits) splits (stateIn (setting .inputs) n best store′ pattern′)
+      → searchFrom (simulatedDrop file table) (envelopeDrop file (setting .hops) table) (firstUndecided order) ratio (budget - splits) splits (stateIn (setting .inputs) n best store′ pattern′)
       ≡ record { outcome = outcome; splits = splits; state = stateIn (setting .inputs) n best store′ pattern′ }
       → Ends outcome
   unfolding stateIn
@@ -132,27 +132,27 @@ module _ {file : File} {setting : Setting} {table : List ℕ} {ratio budget thre
       (rw (← next .greatest) l))
 
   pub reached-next : {n″ best″ : ℕ} {store″ pattern″ : List ℕ} → (upper ≡ best - 1 → ⊥) → ratio * (best - 1) < 1000 * upper → (splits ≡ budget → ⊥)
-      → CaseSplit file setting table n best store′ pattern′ n″ best″ store″ pattern″
-      → Reached file setting table ratio budget threshold store pattern n″ best″ (splits + 1) store″ pattern″
+      → CaseSplit file setting table order n best store′ pattern′ n″ best″ store″ pattern″
+      → Reached file setting table order ratio budget threshold store pattern n″ best″ (splits + 1) store″ pattern″
   unfolding stateIn bestIn
   reached-next d l left case-split =
       let more : splits < budget = omega (arith, reached .afforded) in
       let e : budget - (splits + 1) ≡ budget - splits - 1 = omega arith in
       record {
         rest = rw (e, case-split .state)
-            (goes-on (simulatedDrop file table) (envelopeDrop file (setting .hops) table) (chooseIn file) ratio (stateIn (setting .inputs) n best store′ pattern′)
+            (goes-on (simulatedDrop file table) (envelopeDrop file (setting .hops) table) (firstUndecided order) ratio (stateIn (setting .inputs) n best store′ pattern′)
             (budget - splits) splits (omega arith) (λ q. d (next .greatest ∙ q)) (rw (← next .greatest) l) ∙ reached .rest);
         running = case-split .running;
         covered = subst (ProbesCovered (simulatedDrop file table)) (sym (case-split .state))
-            (split-covered (simulatedDrop file table) (envelopeDrop file (setting .hops) table) (chooseIn file) (stateIn (setting .inputs) n best store′ pattern′) (reached .covered));
+            (split-covered (simulatedDrop file table) (envelopeDrop file (setting .hops) table) (firstUndecided order) (stateIn (setting .inputs) n best store′ pattern′) (reached .covered));
         past = past-kept (case-split .more) (reached .past) (case-split .past);
         afforded = omega arith;
         few = omega (arith, case-split .few, reached .few);
       }
 
 -- The same end by another name.
-pub ran-as : {file : File} {setting : Setting} {table : List ℕ} {ratio budget : ℕ} {start : State} {store pattern store′ pattern′ : List ℕ} {ended same : RunEnd}
-    → ended ≡ same → Ran file setting table ratio budget start store pattern same store′ pattern′
-    → Ran file setting table ratio budget start store pattern ended store′ pattern′
-ran-as {file} {setting} {table} {ratio} {budget} {start} {store} {pattern} {store′} {pattern′} e ran =
-    subst (λ ended. Ran file setting table ratio budget start store pattern ended store′ pattern′) (sym e) ran
+pub ran-as : {file : File} {setting : Setting} {table order : List ℕ} {ratio budget : ℕ} {start : State} {store pattern store′ pattern′ : List ℕ} {ended same : RunEnd}
+    → ended ≡ same → Ran file setting table order ratio budget start store pattern same store′ pattern′
+    → Ran file setting table order ratio budget start store pattern ended store′ pattern′
+ran-as {file} {setting} {table} {order} {ratio} {budget} {start} {store} {pattern} {store′} {pattern′} e ran =
+    subst (λ ended. Ran file setting table order ratio budget start store pattern ended store′ pattern′) (sym e) ran

@@ -10,25 +10,23 @@ use borrow.Table.Steps.{cases}
 use Rattle.laws.specs.Rewritten.{Rewritten}
 use Rattle.excitation.specs.Excitation.{excitationOf}
 use Rattle.excitation.specs.UncertaintySet.{member, empty, code, decode, single, setsIn}
-use Rattle.excitation.proofs.Codes.{set-at, sets-long}
+use Rattle.excitation.proofs.Codes.{set-at}
 use Rattle.block.specs.Accepted.{AcceptedFile}
 use Rattle.block.specs.Limits.{dropLimit}
 use Rattle.block.specs.Record.{File}
 use Rattle.cases.specs.Case.{Case, probe, membersBelow, childrenBelow}
-use Rattle.cases.specs.Choice.{coneSizes, chosenInput}
-use Rattle.cases.proofs.Chosen.{chosen-same, cones-at}
+use Rattle.cases.specs.Choice.{firstUndecided}
 use Rattle.cases.specs.Probes.{ProbesCovered}
-use Rattle.cases.specs.Records.{casesIn, HasCase, SetCodes}
+use Rattle.cases.specs.Records.{casesIn, HasCase, SetCodes, childCodes}
 use Rattle.cases.specs.Search.{Best, setsAt, greatestUpper, nextSplit, placed, bestOf, madeUnder, nextChildren, split}
 use Rattle.cases.proofs.Codes.{probe-read}
 use Rattle.cases.proofs.Records.{caseOf, sets-copied, cases-long, sets-at}
 use Rattle.cases.proofs.Right.{best-grown}
 use Rattle.evaluation.specs.declared.Setting.{Setting}
 use Rattle.bounds.specs.Bounds.{simulatedDrop, envelopeDrop, probeDrop, CaseMade, ownUpper}
-use Rattle.search.specs.Search.{chooseIn}
-use Rattle.search.specs.Steps.{ChildMade, Running, Cones, CaseToSplit, CaseSplit, bestIn, stateIn, childCodes}
+use Rattle.search.specs.Steps.{ChildMade, Running, CaseToSplit, CaseSplit, bestIn, stateIn}
 use Rattle.search.specs.declared.Step.{Step}
-use Rattle.search.proofs.Children.{child-coded, child-sets, children-more, children-same}
+use Rattle.cases.proofs.Children.{child-coded, child-sets, children-more, children-same}
 use Rattle.search.proofs.Stored.{CasesStored, BestStored, best-more, best-next}
 use Rattle.search.proofs.Places.{Places, places-more, places-few, places-next, places-skip, places-add, stored-next}
 
@@ -151,14 +149,14 @@ module _ {file : File} {setting : Setting} {table parent : List ℕ} {input k ca
         (λ t. let q = child .skipped t in rw (q .0, q .1, q .2) (skipped t))
 
 -- A split, once the children of all four excitations are made.
-pub case-split : (cones : List ℕ) {file : File} {setting : Setting} {table parent given : List ℕ} {input k cap n threshold : ℕ} {store pattern : List ℕ}
+pub case-split : (order : List ℕ) {file : File} {setting : Setting} {table parent given : List ℕ} {input k cap n threshold : ℕ} {store pattern : List ℕ}
     {e count next threshold′ : ℕ} {store′ pattern′ : List ℕ} → AcceptedFile file (setting .nets) (setting .inputs) → Running (setting .inputs) n threshold store pattern
-    → CaseToSplit (setting .inputs) n store k cap → Cones file (setting .inputs) cones → Rewritten (λ j. getD store (72 * k + j) 0) 0 64 given parent
-    → input ≡ chosenInput cones (setsIn (setting .inputs) parent) → e ≡ 4
+    → CaseToSplit (setting .inputs) n store k cap → Rewritten (λ j. getD store (72 * k + j) 0) 0 64 given parent
+    → input ≡ firstUndecided order (setsIn (setting .inputs) parent) → e ≡ 4
     → Splitting file setting table parent input k cap n threshold store pattern e count next threshold′ store′ pattern′
-    → CaseSplit file setting table n threshold store pattern count threshold′ store′ pattern′
+    → CaseSplit file setting table order n threshold store pattern count threshold′ store′ pattern′
 unfolding split nextChildren stateIn
-case-split cones {file} {setting} {table} {parent} {given} {input} {k} {cap} {n} {threshold} {store} {pattern} {e} {count} {next} {threshold′} {store′} {pattern′} accepted running to are copied chosen end now =
+case-split order {file} {setting} {table} {parent} {given} {input} {k} {cap} {n} {threshold} {store} {pattern} {e} {count} {next} {threshold′} {store′} {pattern′} accepted running to copied chosen end now =
     let simulated = simulatedDrop file table in
     let bound = envelopeDrop file (setting .hops) table in
     let xs = casesIn (setting .inputs) store n in
@@ -167,17 +165,15 @@ case-split cones {file} {setting} {table} {parent} {given} {input} {k} {cap} {n}
     let sets = setsAt xs at in
     let split-is : case ≡ sets =
     sets-copied (setting .inputs) (accepted .few-inputs) store k given parent copied ∙ sym (sets-at (setting .inputs) store n k (to .inside)) ∙ ap (setsAt xs) (to .place) in
-    let few : length case ≡ (setting .inputs) = sets-long (setting .inputs) parent in
-    let same = chosen-same cones (coneSizes file) case (λ net h. are net (omega (arith, few)) ∙ sym (cones-at file net (omega (arith, few, accepted .input-count)))) in
-    let input-is : input ≡ chooseIn file sets = chosen ∙ same ∙ ap (chooseIn file) split-is in
-    let new-is : childrenBelow e input case ≡ childrenBelow 4 (chooseIn file sets) sets =
-    ap (λ m. childrenBelow m input case) end ∙ ap (λ i. childrenBelow 4 i case) input-is ∙ ap (childrenBelow 4 (chooseIn file sets)) split-is in
-    let cases-are : casesIn (setting .inputs) store′ count ≡ placed at (map (madeUnder simulated bound (greatestUpper xs)) (childrenBelow 4 (chooseIn file sets) sets)) xs =
+    let input-is : input ≡ firstUndecided order sets = chosen ∙ ap (firstUndecided order) split-is in
+    let new-is : childrenBelow e input case ≡ childrenBelow 4 (firstUndecided order sets) sets =
+    ap (λ m. childrenBelow m input case) end ∙ ap (λ i. childrenBelow 4 i case) input-is ∙ ap (childrenBelow 4 (firstUndecided order sets)) split-is in
+    let cases-are : casesIn (setting .inputs) store′ count ≡ placed at (map (madeUnder simulated bound (greatestUpper xs)) (childrenBelow 4 (firstUndecided order sets) sets)) xs =
     now .stored .is
     ∙ ap (λ j. placed j (map (madeUnder simulated bound cap) (childrenBelow e input case)) xs) (to .place)
     ∙ ap (λ u. placed at (map (madeUnder simulated bound u) (childrenBelow e input case)) xs) (to .greatest)
     ∙ ap (λ new. placed at (map (madeUnder simulated bound (greatestUpper xs)) new) xs) new-is in
-    let best-is : bestIn (setting .inputs) threshold′ pattern′ ≡ bestOf simulated (bestIn (setting .inputs) threshold pattern) (childrenBelow 4 (chooseIn file sets) sets) =
+    let best-is : bestIn (setting .inputs) threshold′ pattern′ ≡ bestOf simulated (bestIn (setting .inputs) threshold pattern) (childrenBelow 4 (firstUndecided order sets) sets) =
     now .best .is ∙ ap (bestOf simulated (bestIn (setting .inputs) threshold pattern)) new-is in
     let more = places-more k n e count next (to .inside) (childrenBelow e input case) (now .places) in
     record {

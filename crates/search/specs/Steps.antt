@@ -7,17 +7,18 @@ use mathlib.Core.Path.{_≡_}
 use lib.ListN.{length, getD, set}
 use Rattle.excitation.specs.Excitation.{excitationOf, patternOf}
 use Rattle.excitation.specs.UncertaintySet.{member, code, decode, single}
-use Rattle.block.specs.Block.{frame, coneSize}
+use Rattle.block.specs.Block.{frame}
 use Rattle.block.specs.Limits.{dropLimit}
 use Rattle.block.specs.Record.{File}
 use Rattle.sheet.specs.Sheet.{sheetWords}
-use Rattle.cases.specs.Records.{casesIn, HasCases}
+use Rattle.cases.specs.Choice.{firstUndecided}
+use Rattle.cases.specs.Records.{casesIn, HasCases, childCodes}
 use Rattle.cases.specs.Search.{Best, State, SearchEnd, greatestUpper, firstState, nextSplit, split, searchFrom}
 use Rattle.cases.specs.Store.{storeWith, patternWith}
 use Rattle.bounds.specs.Bounds.{simulatedDrop, envelopeDrop, CaseMade}
 use Rattle.evaluation.specs.declared.Setting.{Setting}
 use Rattle.operation.specs.declared.Found.{Found}
-use Rattle.search.specs.Search.{SearchArguments, chooseIn, searchOf, finalSheet, foundBy}
+use Rattle.search.specs.Search.{SearchArguments, searchOf, finalSheet, foundBy}
 use Rattle.search.specs.declared.Step.{Step}
 use Rattle.search.specs.declared.run.RunEnd.{RunEnd}
 
@@ -50,10 +51,6 @@ pub record FirstMade (file : File) (setting : Setting) (table store pattern : Li
   pub running : Running (setting .inputs) 1 threshold store′ pattern′
   pub past : PastKept (setting .inputs) 1 store pattern store′ pattern′
 
--- The sets of a child: those of its parent, but for the input that is split, which has one excitation.
-abbrev pub childCodes : List ℕ → ℕ → ℕ → List ℕ
-childCodes parent input e = set parent input (code (single (excitationOf e)))
-
 -- A child made, where the parent's set at the input allows the excitation of byte e; else nothing changes. A child is put at the next
 -- place: the parent's for the first, past the cases for the others.
 pub record ChildMade (file : File) (setting : Setting) (table parent : List ℕ) (input e cap : ℕ) (step : Step) (store pattern : List ℕ)
@@ -64,10 +61,6 @@ pub record ChildMade (file : File) (setting : Setting) (table parent : List ℕ)
   pub counted : member (excitationOf e) (decode (getD parent input 0)) ≡ true
       → (step′ .cases ≡ max (step .next .0 + 1) (step .cases)) × (step′ .next .0 ≡ step′ .cases)
 
--- The cones of the inputs.
-abbrev pub Cones : File → ℕ → List ℕ → Type 0
-Cones file inputs cones = (net : ℕ) → net < inputs → getD cones net 0 ≡ coneSize file net
-
 -- The case to split: the first whose upper number is U, and U.
 pub record CaseToSplit (inputs n : ℕ) (store : List ℕ) (k upper : ℕ) : Type 0 where
   pub place : k ≡ nextSplit (casesIn inputs store n)
@@ -75,20 +68,20 @@ pub record CaseToSplit (inputs n : ℕ) (store : List ℕ) (k upper : ℕ) : Typ
   pub greatest : upper ≡ greatestUpper (casesIn inputs store n)
 
 -- A case split.
-pub record CaseSplit (file : File) (setting : Setting) (table : List ℕ) (n threshold : ℕ) (store pattern : List ℕ)
+pub record CaseSplit (file : File) (setting : Setting) (table order : List ℕ) (n threshold : ℕ) (store pattern : List ℕ)
     (n′ threshold′ : ℕ) (store′ pattern′ : List ℕ) : Type 0 where
   pub state : stateIn (setting .inputs) n′ threshold′ store′ pattern′
-      ≡ split (simulatedDrop file table) (envelopeDrop file (setting .hops) table) (chooseIn file) (stateIn (setting .inputs) n threshold store pattern)
+      ≡ split (simulatedDrop file table) (envelopeDrop file (setting .hops) table) (firstUndecided order) (stateIn (setting .inputs) n threshold store pattern)
   pub running : Running (setting .inputs) n′ threshold′ store′ pattern′
   pub more : n ≤ n′
   pub few : n′ ≤ n + 3
   pub past : PastKept (setting .inputs) n′ store pattern store′ pattern′
 
 -- A run of the search from a state on, to its end.
-pub record Ran (file : File) (setting : Setting) (table : List ℕ) (ratio budget : ℕ) (start : State) (store pattern : List ℕ)
+pub record Ran (file : File) (setting : Setting) (table order : List ℕ) (ratio budget : ℕ) (start : State) (store pattern : List ℕ)
     (ended : RunEnd) (store′ pattern′ : List ℕ) : Type 0 where
   pub end : SearchEnd
-  pub is : end ≡ searchFrom (simulatedDrop file table) (envelopeDrop file (setting .hops) table) (chooseIn file) ratio budget 0 start
+  pub is : end ≡ searchFrom (simulatedDrop file table) (envelopeDrop file (setting .hops) table) (firstUndecided order) ratio budget 0 start
   pub outcome : ended .outcome ≡ end .outcome
   pub upper : ended .upper ≡ greatestUpper (end .state .cases)
   pub splits : ended .splits ≡ end .splits

@@ -2,6 +2,7 @@
 ghost use mathlib.Core.Path.{_≡_};
 ghost use Prim.Native.Nat.{_+_, _*_, _≤_};
 ghost use lib.ListN.{length};
+ghost use Rattle.operation.specs.SplitOrder.{NetsListed};
 ghost use Rattle.evaluation.specs.Evaluation.{Evaluable};
 ghost use Rattle.search.specs.Search.{Searched};
 ghost use Rattle.search.specs.Steps.{FirstMade, BlockSearched};
@@ -10,7 +11,6 @@ use block::Verdict;
 use bounds::draw;
 use bounds::make;
 use cases::CaseNumber;
-use cases::choice;
 use evaluation::Setting;
 use operation::Found;
 use operation::SearchAnswer;
@@ -68,22 +68,21 @@ fn search_block(
     table: &[u16],
     ratio: u64,
     budget: u64,
+    order: &[u8],
     sheet: &mut [Word],
     pattern: &mut [u8],
     work: &mut [u8],
     store: &mut [u8],
 ) -> Found
-    requires { ⌜ Evaluable (now file) setting (now sheet) (now work) × (length (now pattern) ≡ 64) × (ratio ≤ 10000) × (budget ≤ 10000) × (72 * (1 + 3 * budget) ≤ length (now store)) ⌝ }
-    ensures { λ r. ⌜ BlockSearched (record { file = now (file .entry); hops = setting .hops; table = now (table .entry); ratio = ratio; budget = budget; sheet = now (sheet .entry); pattern = now (pattern .entry); work = now (work .entry); store = now (store .entry) }) r (now (sheet .exit)) (now (pattern .exit)) (now (store .exit)) ⌝ }
+    requires { ⌜ Evaluable (now file) setting (now sheet) (now work) × (length (now pattern) ≡ 64) × NetsListed (setting .inputs) (now order) × (ratio ≤ 10000) × (budget ≤ 10000) × (72 * (1 + 3 * budget) ≤ length (now store)) ⌝ }
+    ensures { λ r. ⌜ BlockSearched (record { file = now (file .entry); hops = setting .hops; table = now (table .entry); ratio = ratio; budget = budget; order = now (order .entry); sheet = now (sheet .entry); pattern = now (pattern .entry); work = now (work .entry); store = now (store .entry) }) r (now (sheet .exit)) (now (pattern .exit)) (now (store .exit)) ⌝ }
 {
     let threshold = make_first(file, setting, table, sheet, pattern, work, store);
-    let mut cones = [0u16; 64];
-    choice::write_cones(file, setting.nets, setting.inputs, &mut cones);
     let ended = run::run(
         file,
         setting,
         table,
-        &cones,
+        order,
         ratio,
         budget,
         threshold,
@@ -112,22 +111,25 @@ pub fn search(
     table: &[u16],
     ratio: u64,
     budget: u64,
+    order: &[u8],
     sheet: &mut [Word],
     pattern: &mut [u8],
     work: &mut [u8],
     store: &mut [u8],
 ) -> SearchAnswer
-    ensures { λ r. ⌜ Searched (record { file = now (file .entry); hops = hops; table = now (table .entry); ratio = ratio; budget = budget; sheet = now (sheet .entry); pattern = now (pattern .entry); work = now (work .entry); store = now (store .entry) }) r (now (sheet .exit)) (now (pattern .exit)) (now (work .exit)) (now (store .exit)) ⌝ }
+    ensures { λ r. ⌜ Searched (record { file = now (file .entry); hops = hops; table = now (table .entry); ratio = ratio; budget = budget; order = now (order .entry); sheet = now (sheet .entry); pattern = now (pattern .entry); work = now (work .entry); store = now (store .entry) }) r (now (sheet .exit)) (now (pattern .exit)) (now (work .exit)) (now (store .exit)) ⌝ }
 {
     match block::read(file) {
         ReadAnswer::Refused(r) => SearchAnswer::Refused(r),
         ReadAnswer::Counts { nets, inputs } => {
             match arguments::check_arguments(
                 nets as usize,
+                inputs as usize,
                 hops,
                 table.len(),
                 ratio,
                 budget,
+                order,
                 sheet.len(),
                 pattern.len(),
                 work.len(),
@@ -146,6 +148,7 @@ pub fn search(
                         table,
                         ratio,
                         budget,
+                        order,
                         sheet,
                         pattern,
                         work,

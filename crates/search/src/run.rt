@@ -2,10 +2,11 @@
 ghost use mathlib.Core.Path.{_≡_};
 ghost use Prim.Native.Nat.{_+_, _*_, _≤_};
 ghost use lib.ListN.{length};
+ghost use Rattle.operation.specs.SplitOrder.{NetsListed};
 ghost use Rattle.cases.specs.Probes.{ProbesCovered};
 ghost use Rattle.evaluation.specs.Evaluation.{Evaluable};
 ghost use Rattle.bounds.specs.Bounds.{simulatedDrop};
-ghost use Rattle.search.specs.Steps.{Running, Cones, stateIn, Ran};
+ghost use Rattle.search.specs.Steps.{Running, stateIn, Ran};
 use super::split;
 use cases::store;
 use evaluation::Setting;
@@ -39,7 +40,7 @@ pub fn run(
     file: &[u8],
     setting: Setting,
     table: &[u16],
-    cones: &[u16],
+    order: &[u8],
     ratio: u64,
     budget: u64,
     threshold: u64,
@@ -48,8 +49,8 @@ pub fn run(
     work: &mut [u8],
     store: &mut [u8],
 ) -> RunEnd
-    requires { ⌜ Evaluable (now file) setting (now sheet) (now work) × Running (setting .inputs) 1 threshold (now store) (now pattern) × Cones (now file) (setting .inputs) (now cones) × (length (now cones) ≡ 64) × (ratio ≤ 10000) × (budget ≤ 10000) × (72 * (1 + 3 * budget) ≤ length (now store)) × ProbesCovered (simulatedDrop (now file) (now table)) (stateIn (setting .inputs) 1 threshold (now store) (now pattern)) ⌝ }
-    ensures { λ r. ⌜ Ran (now (file .entry)) setting (now (table .entry)) ratio budget (stateIn (setting .inputs) 1 threshold (now (store .entry)) (now (pattern .entry))) (now (store .entry)) (now (pattern .entry)) r (now (store .exit)) (now (pattern .exit)) ⌝ }
+    requires { ⌜ Evaluable (now file) setting (now sheet) (now work) × Running (setting .inputs) 1 threshold (now store) (now pattern) × NetsListed (setting .inputs) (now order) × (ratio ≤ 10000) × (budget ≤ 10000) × (72 * (1 + 3 * budget) ≤ length (now store)) × ProbesCovered (simulatedDrop (now file) (now table)) (stateIn (setting .inputs) 1 threshold (now store) (now pattern)) ⌝ }
+    ensures { λ r. ⌜ Ran (now (file .entry)) setting (now (table .entry)) (now (order .entry)) ratio budget (stateIn (setting .inputs) 1 threshold (now (store .entry)) (now (pattern .entry))) (now (store .entry)) (now (pattern .entry)) r (now (store .exit)) (now (pattern .exit)) ⌝ }
 {
     let mut cases: usize = 1;
     let mut best = threshold;
@@ -71,7 +72,7 @@ pub fn run(
             file,
             setting,
             table,
-            cones,
+            order,
             k,
             upper,
             cases,

@@ -3,11 +3,12 @@ ghost use mathlib.Core.Path.{_≡_};
 ghost use Prim.Native.Nat.{_+_, _*_, _≤_, _<_};
 ghost use lib.ListN.{length};
 ghost use Rattle.block.specs.Limits.{dropLimit};
+ghost use Rattle.operation.specs.SplitOrder.{NetsListed};
 ghost use Rattle.cases.specs.Probes.{ProbesCovered};
 ghost use Rattle.cases.specs.Records.{HasCase, SetCodes};
 ghost use Rattle.evaluation.specs.Evaluation.{Evaluable};
 ghost use Rattle.bounds.specs.Bounds.{simulatedDrop, probeDrop};
-ghost use Rattle.search.specs.Steps.{stateIn, childCodes, ChildMade, Running, Cones, CaseToSplit, CaseSplit};
+ghost use Rattle.search.specs.Steps.{stateIn, ChildMade, Running, CaseToSplit, CaseSplit};
 use super::Step;
 use block::Net;
 use bounds::make;
@@ -18,18 +19,6 @@ use cases::store;
 use evaluation::Setting;
 use excitation::Set;
 use sheet::Word;
-
-// The codes of a child's sets: those of its parent, but for the input that is split, whose set has the excitation of byte e alone.
-fn child_codes(parent: &[u8], input: Net, e: u8) -> [u8; 64]
-    requires { ⌜ (length (now parent) ≡ 64) × (input .0 < 64) ⌝ }
-    ensures { λ r. ⌜ r ≡ childCodes (now (parent .entry)) (input .0) e ⌝ }
-{
-    let net = input.0;
-    let mut codes = [0u8; 64];
-    store::copy(parent, 0, &mut codes, 0, 64);
-    codes[net] = excitation::single(excitation::excitation_of(e)).code;
-    codes
-}
 
 // Makes the child whose input has the excitation of byte e, where the parent's set allows it. The child of the first allowed has its
 // parent's probe, whose drop is known to be below the threshold.
@@ -56,7 +45,7 @@ fn make_child(
     if !set.contains(excitation::excitation_of(e)) {
         return step;
     }
-    let codes = child_codes(parent, input, e);
+    let codes = sets::child_codes(parent, input, e);
     let known = e == sets::first_allowed(code);
     let next = step.next;
     let threshold = make::make_case(
@@ -86,7 +75,7 @@ pub fn split(
     file: &[u8],
     setting: Setting,
     table: &[u16],
-    cones: &[u16],
+    order: &[u8],
     k: CaseNumber,
     cap: u64,
     n: usize,
@@ -96,12 +85,12 @@ pub fn split(
     work: &mut [u8],
     store: &mut [u8],
 ) -> Step
-    requires { ⌜ Evaluable (now file) setting (now sheet) (now work) × Running (setting .inputs) n threshold (now store) (now pattern) × CaseToSplit (setting .inputs) n (now store) (k .0) cap × Cones (now file) (setting .inputs) (now cones) × (length (now cones) ≡ 64) × (72 * (n + 3) ≤ length (now store)) × (n + 3 ≤ 30001) × ProbesCovered (simulatedDrop (now file) (now table)) (stateIn (setting .inputs) n threshold (now store) (now pattern)) ⌝ }
-    ensures { λ r. ⌜ CaseSplit (now (file .entry)) setting (now (table .entry)) n threshold (now (store .entry)) (now (pattern .entry)) (r .cases) (r .threshold) (now (store .exit)) (now (pattern .exit)) ⌝ }
+    requires { ⌜ Evaluable (now file) setting (now sheet) (now work) × Running (setting .inputs) n threshold (now store) (now pattern) × CaseToSplit (setting .inputs) n (now store) (k .0) cap × NetsListed (setting .inputs) (now order) × (72 * (n + 3) ≤ length (now store)) × (n + 3 ≤ 30001) × ProbesCovered (simulatedDrop (now file) (now table)) (stateIn (setting .inputs) n threshold (now store) (now pattern)) ⌝ }
+    ensures { λ r. ⌜ CaseSplit (now (file .entry)) setting (now (table .entry)) (now (order .entry)) n threshold (now (store .entry)) (now (pattern .entry)) (r .cases) (r .threshold) (now (store .exit)) (now (pattern .exit)) ⌝ }
 {
     let mut parent = [0u8; 64];
     store::read_sets(store, k, &mut parent);
-    let input = choice::choose(&parent, setting.inputs, cones);
+    let input = choice::choose(&parent, setting.inputs, order);
     let mut step = Step {
         cases: n,
         next: k,

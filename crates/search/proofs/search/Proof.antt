@@ -2,6 +2,7 @@
 -- Assumes nothing.
 use mathlib.Core.Path.{sym, _∙_}
 use Rattle.operation.proofs.Operations.{file-accepted}
+use Rattle.operation.proofs.SplitOrders.{nets-listed}
 use Rattle.search.proofs.Accepted.{arguments-right}
 use Rattle.search.proofs.Answers.{file-refused, argument-refused, call-accepted}
 use borrow.Author.Needs.{needs}
@@ -29,7 +30,7 @@ enum-told c = search needs
 search-block-requires : tie.Need-search-block-requires
 search-block-requires c κs =
     let file = file-accepted (c .before .before .before .before .before .before .before .before .before .before .read .ensures) (c .before .before .before .before .before .before .before .before .nets .given .1) in
-    let right = arguments-right _ _ _ _ _ _ _ _ _ (sym (c .before .before .before .before .before .before .check-arguments .ensures) ∙ c .before .before .before .before .enum-told .given .1) in (
+    let right = arguments-right _ _ _ _ _ _ _ _ _ _ _ (sym (c .before .before .before .before .before .before .check-arguments .ensures) ∙ c .before .before .before .before .enum-told .given .1) in (
       record {
         accepted = file;
         some-hops = right .some-hops;
@@ -37,6 +38,7 @@ search-block-requires c κs =
         rows = record { whole = right .work-long; numbered = file .few-nets };
       },
       right .pattern-long,
+      nets-listed _ _ (right .order-right),
       right .ratio-high,
       right .budget-high,
       right .store-long,

@@ -1,63 +1,65 @@
--- `cases::choice::choose` meets its contract.
+-- `cases::choice::choose` meets its contract. The loop's invariant: the scan of the rest of the list is that of the whole.
 -- Assumes nothing.
 use Prim.Native.Nat.{_-_, _≤_}
-use mathlib.Core.Logic.{⊎-elim}
-use mathlib.Core.Path.{_≡_, _∙_}
+use mathlib.Core.Path.{_≡_, refl, sym, subst, _∙_}
 use native.Mathlib.Omega.{arith}
+use lib.ListN.{drop}
+use Rattle.excitation.specs.UncertaintySet.{setsIn}
+use Rattle.cases.specs.Choice.{firstUndecided}
 use borrow.Author.Needs.{needs}
-use Rattle.laws.proofs.Greatest.{GreatestSoFar, greatest-one, greatest-replaced, greatest-kept}
-use Rattle.cases.proofs.Chosen.{rankAt, chosen-is}
+use Rattle.cases.proofs.Chosen.{scan-found, scan-next, scan-end}
 use Rattle.cases.proofs.choice.choose.Statement.{statement}
 use Rattle.cases.proofs.choice.choose.Tie as tie
 
 abbrev Inv-loop : tie.InvT-loop
-Inv-loop codes inputs cones best₀ most₀ net₀ best most net = (1 ≤ net) × (net ≤ inputs) × GreatestSoFar (rankAt codes cones) net best most
+Inv-loop codes inputs order k₀ k = (k ≤ inputs) × (firstUndecided (drop k order) (setsIn inputs codes) ≡ firstUndecided order (setsIn inputs codes))
 
 abbrev μ-loop : tie.MeasureT-loop
-μ-loop codes inputs cones best₀ most₀ net₀ best most net = inputs - net
-
-shared-slice-read-rank-of : tie.Need-shared-slice-read-rank-of Inv-loop μ-loop
-shared-slice-read-rank-of c = search needs
-
-shared-slice-read-rank-of-2 : tie.Need-shared-slice-read-rank-of-2 Inv-loop μ-loop
-shared-slice-read-rank-of-2 c = search needs
-
-rank-of-requires : tie.Need-rank-of-requires Inv-loop μ-loop
-rank-of-requires c κs = search needs
+μ-loop codes inputs order k₀ k = inputs - k
 
 loop-holds : tie.Need-loop-holds Inv-loop μ-loop
-loop-holds c = (omega arith, omega arith, greatest-one _ _ (c .rank-of .ensures))
+loop-holds c = (omega arith, refl)
 
-shared-slice-read-rank-of-3 : tie.Need-shared-slice-read-rank-of-3 Inv-loop μ-loop
-shared-slice-read-rank-of-3 c = search needs
+shared-slice-read-usize-from-u8 : tie.Need-shared-slice-read-usize-from-u8 Inv-loop μ-loop
+shared-slice-read-usize-from-u8 c = omega (arith, c .before .before .before .before .before .pre .2 .long)
 
-mul-rank-of : tie.Need-mul-rank-of Inv-loop μ-loop
-mul-rank-of c = search needs
+usize-from-u8-requires : tie.Need-usize-from-u8-requires Inv-loop μ-loop
+usize-from-u8-requires c κs = search needs
 
-shared-slice-read-rank-of-4 : tie.Need-shared-slice-read-rank-of-4 Inv-loop μ-loop
-shared-slice-read-rank-of-4 c = search needs
+shared-slice-read-is-undecided : tie.Need-shared-slice-read-is-undecided Inv-loop μ-loop
+shared-slice-read-is-undecided c =
+    let pre = c .before .before .before .before .before .before .before .pre in
+    omega (arith, c .before .usize-from-u8 .ensures .0, pre .1, pre .2 .low _ (c .before .before .before .loop-test .taken))
 
-rank-of-requires-2 : tie.Need-rank-of-requires-2 Inv-loop μ-loop
-rank-of-requires-2 c κs = search needs
+is-undecided-requires : tie.Need-is-undecided-requires Inv-loop μ-loop
+is-undecided-requires c κs = search needs
 
-add-net : tie.Need-add-net Inv-loop μ-loop
-add-net c = search needs
+returns : tie.Need-returns Inv-loop μ-loop
+returns c =
+    let pre = c .before .before .before .before .before .before .before .before .before .pre in
+    let taken = c .before .before .before .before .before .loop-test .taken in
+    let net = c .before .before .before .usize-from-u8 .ensures .0 in (
+      scan-found (pre .2) _ _ _ taken net (c .before .is-undecided .ensures) (c .if1 .taken) ∙ c .before .before .before .before .before .before .loop .inv .1,
+      omega (arith, net, pre .2 .low _ taken),
+    )
+
+add-k : tie.Need-add-k Inv-loop μ-loop
+add-k c = search needs
 
 loop-less : tie.Need-loop-less Inv-loop μ-loop
 loop-less c = search needs
 
 loop-again : tie.Need-loop-again Inv-loop μ-loop
-loop-again c = (
-  omega arith,
-  omega arith,
-  ⊎-elim
-      (λ w. greatest-replaced _ _ _ _ _ _ _ (c .before .before .before .before .before .loop .inv .2) (c .before .rank-of2 .ensures) (w .0 .taken) (w .1) (w .2))
-      (λ w. greatest-kept _ _ _ _ _ _ _ (c .before .before .before .before .before .loop .inv .2) (c .before .rank-of2 .ensures) (w .0 .left) (w .1) (w .2))
-      (c .if1 .came),
-)
+loop-again c =
+    let pre = c .before .before .before .before .before .before .before .before .before .pre in
+    let taken = c .before .before .before .before .before .loop-test .taken in
+    let net = c .before .before .before .usize-from-u8 .ensures .0 in
+    (omega arith, scan-next (pre .2) _ _ _ taken net (c .before .is-undecided .ensures) (c .if1 .left) ∙ c .before .before .before .before .before .before .loop .inv .1)
 
-returns : tie.Need-returns Inv-loop μ-loop
-returns c = let e : c .before .loop .net ≡ c .before .before .before .before .before .before .before .args .inputs = omega arith in let scanned = rw e at (c .before .loop .inv .2) in (scanned .first ∙ chosen-is _ _ _, scanned .inside)
+returns-2 : tie.Need-returns-2 Inv-loop μ-loop
+returns-2 c =
+    let pre = c .before .before .before .before .pre in
+    (scan-end (pre .2) _ (c .before .loop .k) (omega arith) ∙ c .before .loop .inv .1, omega (arith, pre .0))
 
 pub choose-spec : {M : Type 1} → statement M
 choose-spec =
@@ -65,15 +67,13 @@ choose-spec =
     (tie.spec
     Inv-loop
     μ-loop
-    shared-slice-read-rank-of
-    shared-slice-read-rank-of-2
-    rank-of-requires
     loop-holds
-    shared-slice-read-rank-of-3
-    mul-rank-of
-    shared-slice-read-rank-of-4
-    rank-of-requires-2
-    add-net
+    shared-slice-read-usize-from-u8
+    usize-from-u8-requires
+    shared-slice-read-is-undecided
+    is-undecided-requires
+    returns
+    add-k
     loop-less
     loop-again
-    returns)
+    returns-2)

@@ -13,15 +13,15 @@ use Rattle.search.proofs.run.run.Statement.{statement}
 use Rattle.search.proofs.run.run.Tie as tie
 
 abbrev Inv-loop : tie.InvT-loop
-Inv-loop file setting table cones ratio budget threshold sheet₀ pattern₀ work₀ store₀ cases₀ best₀ splits₀ sheet pattern work store cases best splits =
-    Reached file setting table ratio budget threshold store₀ pattern₀ cases best splits store pattern × (length sheet ≡ length sheet₀) × (length work ≡ length work₀)
+Inv-loop file setting table order ratio budget threshold sheet₀ pattern₀ work₀ store₀ cases₀ best₀ splits₀ sheet pattern work store cases best splits =
+    Reached file setting table order ratio budget threshold store₀ pattern₀ cases best splits store pattern × (length sheet ≡ length sheet₀) × (length work ≡ length work₀)
 
 abbrev μ-loop : tie.MeasureT-loop
-μ-loop file setting table cones ratio budget threshold sheet₀ pattern₀ work₀ store₀ cases₀ best₀ splits₀ sheet pattern work store cases best splits =
+μ-loop file setting table order ratio budget threshold sheet₀ pattern₀ work₀ store₀ cases₀ best₀ splits₀ sheet pattern work store cases best splits =
     budget - splits
 
 loop-holds : tie.Need-loop-holds Inv-loop μ-loop
-loop-holds c = let pre = c .before .before .before .before .before .before .before .pre in (reached-first (pre .1) (pre .7), refl, refl)
+loop-holds c = let pre = c .before .before .before .before .before .before .before .pre in (reached-first (pre .1) (pre .6), refl, refl)
 
 argmax-requires : tie.Need-argmax-requires Inv-loop μ-loop
 argmax-requires c κs = let r = c .before .loop .inv .0 .running in (r .cases .whole, r .some, r .cases .few)
@@ -64,7 +64,7 @@ mul-if2-2 c =
     let at = c .before .before .before .before .before in
     let running = at .loop .inv .0 .running in
     let s = at .before .before .before .before .before .before .before .before in
-    record { fits = omega (arith, ratio-low (s .args .ratio) (at .loop .best - 1) (s .pre .4) (omega (arith, running .threshold-low, running .threshold-high))) }
+    record { fits = omega (arith, ratio-low (s .args .ratio) (at .loop .best - 1) (s .pre .3) (omega (arith, running .threshold-low, running .threshold-high))) }
 
 ended-requires-2 : tie.Need-ended-requires-2 Inv-loop μ-loop
 ended-requires-2 c κs = search needs
@@ -107,13 +107,13 @@ split-requires c κs =
     let found = c .before .before .before .before .before .before .before in
     let inv = found .before .before .before .before .loop .inv in
     let pre = found .before .before .before .before .before .before .before .before .before .before .before .before .pre in
-    let space = split-room (inv .0) (c .before .before .before .before .if3 .left) (pre .5) (pre .6) in
-    (evaluable-kept (pre .0) (inv .1) (inv .2), inv .0 .running, next-found found, pre .2, pre .3, space .0, space .1, inv .0 .covered)
+    let space = split-room (inv .0) (c .before .before .before .before .if3 .left) (pre .4) (pre .5) in
+    (evaluable-kept (pre .0) (inv .1) (inv .2), inv .0 .running, next-found found, pre .2, space .0, space .1, inv .0 .covered)
 
 add-splits : tie.Need-add-splits Inv-loop μ-loop
 add-splits c =
     let at = c .before .before .before .before .before .before .before .before .before .before .before .before .before .before .before .before .before .before .before .before in
-    record { fits = omega (arith, at .loop .inv .0 .afforded, at .before .before .before .before .before .before .before .before .pre .5) }
+    record { fits = omega (arith, at .loop .inv .0 .afforded, at .before .before .before .before .before .before .before .before .pre .4) }
 
 loop-less : tie.Need-loop-less Inv-loop μ-loop
 loop-less c = omega (arith, c .before .before .before .before .before .before .before .before .before .before .before .before .before .before .before .before .before .before .before .before .loop .inv .0 .afforded, c .before .before .before .before .before .before .before .before .before .before .before .before .before .if3 .left)

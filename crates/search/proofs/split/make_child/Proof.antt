@@ -4,7 +4,8 @@ use mathlib.Core.Path.{ap, _∙_}
 use native.Mathlib.Omega.{arith}
 use lib.ListN.{length, length-set}
 use borrow.Author.Needs.{needs}
-use Rattle.search.proofs.Children.{child-coded, child-below, child-skipped, child-made}
+use Rattle.cases.proofs.Children.{child-coded}
+use Rattle.search.proofs.Children.{child-below, child-skipped, child-made}
 use Rattle.search.proofs.split.make_child.Statement.{statement}
 use Rattle.search.proofs.split.make_child.Tie as tie
 

@@ -12,12 +12,12 @@ use Rattle.search.proofs.split.split.Statement.{statement}
 use Rattle.search.proofs.split.split.Tie as tie
 
 abbrev Inv-loop : tie.InvT-loop
-Inv-loop file setting table cones cap n threshold sheet₀ pattern₀ work₀ store₀ parent input step₀ e₀ sheet pattern work store step e =
+Inv-loop file setting table order cap n threshold sheet₀ pattern₀ work₀ store₀ parent input step₀ e₀ sheet pattern work store step e =
     (e ≤ 4) × (length sheet ≡ length sheet₀) × (length work ≡ length work₀)
     × Splitting file setting table parent (input .0) (step₀ .next .0) cap n threshold store₀ pattern₀ e (step .cases) (step .next .0) (step .threshold) store pattern
 
 abbrev μ-loop : tie.MeasureT-loop
-μ-loop file setting table cones cap n threshold sheet₀ pattern₀ work₀ store₀ parent input step₀ e₀ sheet pattern work store step e = 4 - e
+μ-loop file setting table order cap n threshold sheet₀ pattern₀ work₀ store₀ parent input step₀ e₀ sheet pattern work store step e = 4 - e
 
 slice-aggregate-read-sets : tie.Need-slice-aggregate-read-sets Inv-loop μ-loop
 slice-aggregate-read-sets c = search needs
@@ -25,7 +25,7 @@ slice-aggregate-read-sets c = search needs
 read-sets-requires : tie.Need-read-sets-requires Inv-loop μ-loop
 read-sets-requires c κs =
     let s = c .before .before .before .before .before .before .before .before .before in
-    (record { whole = omega (arith, s .pre .2 .inside, s .pre .5); numbered = omega (arith, s .pre .2 .inside, s .pre .6) }, length-replicate {A = ℕ} 64 0)
+    (record { whole = omega (arith, s .pre .2 .inside, s .pre .4); numbered = omega (arith, s .pre .2 .inside, s .pre .5) }, length-replicate {A = ℕ} 64 0)
 
 slice-aggregate-choose : tie.Need-slice-aggregate-choose Inv-loop μ-loop
 slice-aggregate-choose c = search needs
@@ -36,7 +36,7 @@ choose-requires c κs =
     let s = read .before .before .before .before .before .before .before .before .before .before in
     let accepted = s .pre .0 .accepted in
     let long = read .read-sets .ensures .long ∙ length-replicate {A = ℕ} 64 0 in
-    (accepted .one-input, omega (arith, accepted .few-inputs, long), omega (arith, accepted .few-inputs, s .pre .4))
+    (accepted .one-input, omega (arith, accepted .few-inputs, long), s .pre .3)
 
 loop-holds : tie.Need-loop-holds Inv-loop μ-loop
 loop-holds c = (omega arith, refl, refl, splitting-begun (c .before .before .before .before .before .before .before .before .before .before .before .before .before .pre .1))
@@ -54,7 +54,7 @@ make-child-requires c κs =
     let ready = s .pre .0 in
     let copied = read .read-sets .ensures in
     let below = turn .loop-test .taken in
-    let room = child-room (s .pre .2 .inside) below (s .pre .6) (s .pre .5) (at .inv .3) in (
+    let room = child-room (s .pre .2 .inside) below (s .pre .5) (s .pre .4) (at .inv .3) in (
       evaluable-kept ready (at .inv .1) (at .inv .2),
       copied .long ∙ length-replicate {A = ℕ} 64 0,
       codes-copied (s .args .setting .inputs) (ready .accepted .few-inputs) (s .args .store .now) (s .args .k .0) _ _ copied
@@ -65,7 +65,7 @@ make-child-requires c κs =
       room .0,
       room .1,
       at .inv .3 .best .threshold-high,
-      parent-below (ready .accepted .few-inputs) (s .pre .1) (s .pre .2 .inside) (s .pre .7) copied (at .inv .3),
+      parent-below (ready .accepted .few-inputs) (s .pre .1) (s .pre .2 .inside) (s .pre .6) copied (at .inv .3),
     )
 
 add-e : tie.Need-add-e Inv-loop μ-loop
@@ -87,7 +87,7 @@ loop-again c =
       omega (arith, turn .loop-test .taken),
       made .kept .1 .1 .1 .1 .1 .1 .1 .1 .0 ∙ at .inv .1,
       made .kept .1 .1 .1 .1 .1 .1 .1 .1 .1 .1 .0 ∙ at .inv .2,
-      splitting-next (s .pre .2 .inside) (turn .loop-test .taken) (s .pre .6) (s .pre .5) (at .inv .3) (accepted .few-inputs)
+      splitting-next (s .pre .2 .inside) (turn .loop-test .taken) (s .pre .5) (s .pre .4) (at .inv .3) (accepted .few-inputs)
           (copied .long ∙ length-replicate {A = ℕ} 64 0)
           (codes-copied (s .args .setting .inputs) (accepted .few-inputs) (s .args .store .now) (s .args .k .0) _ _ copied
           (s .pre .1 .cases .codes (s .args .k .0) (s .pre .2 .inside)))
@@ -112,7 +112,7 @@ returns c =
     let chosen = c .before .before in
     let read = chosen .before .before .before in
     let s = read .before .before .before .before .before .before .before .before .before .before in
-    case-split (s .args .cones .now) (s .pre .0 .accepted) (s .pre .1) (s .pre .2) (s .pre .3) (read .read-sets .ensures) (chosen .choose .ensures .0)
+    case-split (s .args .order .now) (s .pre .0 .accepted) (s .pre .1) (s .pre .2) (read .read-sets .ensures) (chosen .choose .ensures .0)
     (omega (arith, done .inv .0, c .loop-test .left)) (done .inv .3)
 
 pub split-spec : {M : Type 1} → statement M

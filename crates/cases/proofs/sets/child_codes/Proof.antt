@@ -1,11 +1,11 @@
--- `search::split::child_codes` meets its contract.
+-- `cases::sets::child_codes` meets its contract.
 -- Assumes nothing.
 use Prim.Native.Nat.{ℕ}
 use lib.ListN.{length-replicate}
 use borrow.Author.Needs.{needs}
-use Rattle.search.proofs.Children.{child-codes}
-use Rattle.search.proofs.split.child_codes.Statement.{statement}
-use Rattle.search.proofs.split.child_codes.Tie as tie
+use Rattle.cases.proofs.Children.{child-codes}
+use Rattle.cases.proofs.sets.child_codes.Statement.{statement}
+use Rattle.cases.proofs.sets.child_codes.Tie as tie
 
 slice-aggregate-copy : tie.Need-slice-aggregate-copy
 slice-aggregate-copy c = search needs
