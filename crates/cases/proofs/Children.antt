@@ -1,14 +1,15 @@
 -- Laws of the children of a case: the bytes of their sets, the one that has its parent's probe, and one child more.
 -- Assumes nothing.
-use Prim.Native.Nat.{ℕ, _+_, _≤_, _<_}
+use Prim.Native.Nat.{ℕ, zero, suc, _+_, _≤_, _<_}
 use mathlib.Core.Bool.{true, false, cond}
 use mathlib.Core.List.{List, [], _∷_, _++_, map, append-nil, map-append}
 use mathlib.Core.Path.{_≡_, refl, ap, sym, _∙_}
 use native.Mathlib.Nat.{zero-add}
 use native.Mathlib.Numerals.{add-one}
 use native.Mathlib.Omega.{arith}
-use lib.ListN.{length, getD, set, length-set}
+use lib.ListN.{length, getD, set, length-set, length-append, length-map}
 use lib.Seq.{ext-getD, getD-set-same, getD-set-other}
+use borrow.Table.Steps.{cases}
 use Rattle.laws.specs.Rewritten.{Rewritten}
 use Rattle.laws.proofs.Numbers.{of-each}
 use Rattle.laws.proofs.Rewritten.{rewritten-first}
@@ -78,6 +79,21 @@ module _ (inputs : ℕ) (few : inputs ≤ 64) (parent : List ℕ) (long : length
       let is : excitationOf e ≡ firstAllowed (getD sets input empty) =
       ap excitationOf first ∙ byte-back (firstAllowed (decode (getD parent input 0))) ∙ ap firstAllowed (sym (set-at inputs parent input empty inside)) in
       ap probe child-sets ∙ ap (λ x. probe (set sets input (single x))) is ∙ probe-kept sets input
+
+-- There are no more children than excitations.
+
+members-few : (n : ℕ) (s : UncertaintySet) → length (membersBelow n s) ≤ n
+unfolding membersBelow
+members-few zero s = omega arith
+members-few (suc n) s =
+    cases (member (excitationOf n) s)
+    (λ t. rw t (omega (arith, length-append (membersBelow n s) (excitationOf n ∷ []), members-few n s)))
+    (λ t. rw t (omega (arith, length-append (membersBelow n s) [], members-few n s)))
+
+pub children-few : (n input : ℕ) (case : Case) → length (childrenBelow n input case) ≤ n
+unfolding childrenBelow
+children-few n input case =
+    omega (arith, length-map (membersBelow n (getD case input empty)) (λ e. set case input (single e)), members-few n (getD case input empty))
 
 -- The children of one excitation more: one more where the set allows it, else the same.
 

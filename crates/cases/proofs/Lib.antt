@@ -13,5 +13,6 @@ pub mod Counts
 pub mod Right
 pub mod Probes
 pub mod Children
+pub mod Frames
 pub mod Alike
 pub mod Fours

@@ -119,6 +119,30 @@ count-of-all zero p e = refl
 count-of-all (suc n) p e =
     rw (count-of-all n p (and-left (allBelow n p) (p n) e), and-right (allBelow n p) (p n) e) (add-one n)
 
+-- One number that passes counts; where fewer than two pass, two that do are the same.
+
+count-some : (n : ℕ) (p : ℕ → Bool) (k : ℕ) → k < n → p k ≡ true → 1 ≤ countBelow n p
+unfolding countBelow
+count-some zero p k h e = absurd (not-suc-le-zero h)
+count-some (suc n) p k h e =
+    ⊎-elim (λ (q : k ≡ n). rw (ap p (sym q) ∙ e) (omega arith)) (λ l. let some = count-some n p k l e in omega arith)
+    (eq-or-lt-of-le (le-of-suc-le-suc h))
+
+pub count-two : (n : ℕ) (p : ℕ → Bool) (a b : ℕ) → a < n → b < n → p a ≡ true → p b ≡ true → countBelow n p < 2 → a ≡ b
+unfolding countBelow
+count-two zero p a b h l e f few = absurd (not-suc-le-zero h)
+count-two (suc n) p a b h l e f few =
+    ⊎-elim
+    (λ (q : a ≡ n). ⊎-elim
+    (λ (r : b ≡ n). q ∙ sym r)
+    (λ m. absurd (let last : p n ≡ true = ap p (sym q) ∙ e in let one = rw last at few in omega (arith, count-some n p b m f)))
+    (eq-or-lt-of-le (le-of-suc-le-suc l)))
+    (λ k. ⊎-elim
+    (λ (r : b ≡ n). absurd (let last : p n ≡ true = ap p (sym r) ∙ f in let one = rw last at few in omega (arith, count-some n p a k e)))
+    (λ m. count-two n p a b k m e f (omega arith))
+    (eq-or-lt-of-le (le-of-suc-le-suc l)))
+    (eq-or-lt-of-le (le-of-suc-le-suc h))
+
 pub all-of-count : (n : ℕ) (p : ℕ → Bool) → countBelow n p ≡ n → allBelow n p ≡ true
 unfolding countBelow allBelow
 all-of-count zero p e = refl

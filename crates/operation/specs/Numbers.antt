@@ -47,5 +47,5 @@ searchNumbers (search-answer.Refused r) = refusalNumbers r
 
 -- A maker of a list of inputs: how many inputs it names.
 abbrev pub orderNumbers : OrderAnswer → List ℕ
-orderNumbers (order-answer.Made made) = eight (0 ∷ made .inputs ∷ [])
+orderNumbers (order-answer.Inputs inputs) = eight (0 ∷ inputs ∷ [])
 orderNumbers (order-answer.Refused r) = refusalNumbers r

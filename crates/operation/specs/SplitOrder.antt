@@ -9,7 +9,6 @@ use Rattle.laws.specs.Below.{allBelow, indicator}
 use Rattle.block.specs.Verdict.{Check, check}
 use Rattle.block.specs.declared.Verdict.{Verdict}
 use Rattle.block.specs.declared.Verdict.the-variants.{Accepted, Refused}
-use Rattle.operation.specs.declared.OrderAnswer.{OrderAnswer}
 use Rattle.operation.specs.declared.OrderAnswer.the-variants as answer
 use Rattle.operation.specs.declared.SplitOrder.{SplitOrder}
 
@@ -31,10 +30,10 @@ pub record NetsListed (inputs : ℕ) (order : List ℕ) : Type 0 where
   pub low : (k : ℕ) → k < inputs → getD order k 0 < inputs
 
 -- A list by value: one byte an input, 0 past the inputs.
-unfoldable pub madeOrder : List ℕ → SplitOrder
-madeOrder order = record { inputs = length order; nets = order ++ replicate (64 - length order) 0 }
+unfoldable pub listBytes : List ℕ → List ℕ
+listBytes order = order ++ replicate (64 - length order) 0
 
--- A maker returns its list, or the refusal.
-abbrev pub orderAnswerAfter : Verdict → List ℕ → OrderAnswer
-orderAnswerAfter Accepted order = answer.Made (madeOrder order)
-orderAnswerAfter (Refused r) order = answer.Refused r
+-- A maker returns its list with the count of the inputs, or the refusal with an empty list.
+abbrev pub orderAfter : Verdict → List ℕ → SplitOrder
+orderAfter Accepted order = record { answer = answer.Inputs (length order); nets = listBytes order }
+orderAfter (Refused r) order = record { answer = answer.Refused r; nets = listBytes [] }

@@ -40,14 +40,14 @@ pub enum SearchAnswer {
     Refused(Refusal),
 }
 
-// The inputs of a block in the order to be split: how many there are, and a byte for each of them, its net; 0 past them.
-pub struct SplitOrder {
-    pub inputs: u64,
-    pub nets: [u8; 64],
+// What a maker of a list of inputs in the order to be split answers: how many inputs the list names.
+pub enum OrderAnswer {
+    Inputs(u64),
+    Refused(Refusal),
 }
 
-// What a maker of such a list answers.
-pub enum OrderAnswer {
-    Made(SplitOrder),
-    Refused(Refusal),
+// A maker's answer with its list: a byte for each input, its net; 0 past them, and 0 everywhere where the call is refused.
+pub struct SplitOrder {
+    pub answer: OrderAnswer,
+    pub nets: [u8; 64],
 }

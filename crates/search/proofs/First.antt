@@ -1,4 +1,4 @@
--- Laws of the first case: the frame's codes, and the state of a search once that case is made.
+-- Laws of the first case: the state of a search once it is made.
 -- Assumes nothing.
 use Prim.Native.Nat.{ℕ, _+_, _≤_, _<_, min}
 use mathlib.Core.List.{List, [], _∷_}
@@ -6,7 +6,7 @@ use mathlib.Core.Logic.{inr}
 use mathlib.Core.Path.{_≡_, refl, ap, _∙_}
 use native.Mathlib.Nat.{min-eq-right}
 use native.Mathlib.Omega.{arith}
-use lib.ListN.{length, replicate, length-replicate, getD-replicate}
+use lib.ListN.{length, replicate}
 use Rattle.laws.specs.Rewritten.{Rewritten}
 use Rattle.laws.specs.Turn.{inTurn, listBelow}
 use Rattle.excitation.specs.UncertaintySet.{setsIn}
@@ -15,29 +15,17 @@ use Rattle.block.specs.Accepted.{AcceptedFile}
 use Rattle.block.specs.Block.{frame}
 use Rattle.block.specs.Limits.{dropLimit}
 use Rattle.block.specs.Record.{File, allowed}
-use Rattle.block.proofs.Frames.{frame-code, frame-sets}
+use Rattle.block.proofs.Frames.{frame-sets}
 use Rattle.cases.specs.Case.{Case, probe, evaluationOf}
-use Rattle.cases.specs.Records.{casesIn, SetCodes, HasCases}
+use Rattle.cases.specs.Records.{casesIn, HasCases}
 use Rattle.cases.specs.Search.{StoredCase, Best, State, firstBest, firstState}
 use Rattle.cases.specs.Store.{patternByte}
 use Rattle.cases.proofs.Codes.{probe-low, probe-read}
+use Rattle.cases.proofs.Frames.{codes-long, frame-coded}
 use Rattle.cases.proofs.Records.{caseOf, cases-appended, has-appended}
 use Rattle.evaluation.specs.declared.Setting.{Setting}
 use Rattle.bounds.specs.Bounds.{simulatedDrop, envelopeDrop, ownUpper, CaseMade}
 use Rattle.search.specs.Steps.{bestIn, stateIn, Running, PastKept, FirstMade}
-
--- The frame's codes are those of sets that are not empty, and their sets are the frame.
-module _ {file : File} {nets inputs : ℕ} (accepted : AcceptedFile file nets inputs) {codes : List ℕ}
-    (coded : Rewritten (allowed file) 0 inputs (replicate 64 0) codes) where
-  pub codes-long : length codes ≡ 64
-  codes-long = coded .long ∙ length-replicate {A = ℕ} 64 0
-
-  pub frame-coded : SetCodes inputs codes
-  frame-coded = record {
-    low = λ net h. rw (frame-code accepted coded net h) (accepted .input net h .allowed-low);
-    high = λ net h. rw (frame-code accepted coded net h) (accepted .input net h .allowed-high);
-    none = λ j h m. coded .rest j (inr (omega arith)) ∙ getD-replicate 64 j 0 0 m;
-  }
 
 -- Of every store the first 0 records are those of cases.
 no-cases : (inputs : ℕ) (store : List ℕ) → HasCases inputs store 0

@@ -27,7 +27,7 @@ use Rattle.block.specs.Record.{File, pinCount}
 use Rattle.block.specs.View.{gateOf, pinOf}
 use Rattle.block.specs.Block.{feeds, fedFrom, coneSize}
 use Rattle.block.specs.Accepted.{GateRecord, AcceptedFile}
-use Rattle.cases.specs.Reach.{isFed, reaches, unionBelow, gateWord, Reached, reachedGates}
+use Rattle.split_order.specs.Reach.{isFed, reaches, unionBelow, gateWord, Reached, reachedGates}
 
 -- The bits of a union are those of its words.
 union-bit : (n i : ℕ) (word : ℕ → ℕ) → bitAt (unionBelow n word) i ≡ anyBelow n (λ k. bitAt (word k) i)

@@ -1,2 +1,4 @@
+pub mod Reach
 pub mod Sorting
-pub mod Order
+pub mod Trying
+pub mod SplitOrder

@@ -1,42 +1,47 @@
--- The two makers of a list of inputs in the order to be split (request 6): their answers and lists.
-use Prim.Native.Nat.{ℕ, _+_, _-_, _*_, _≤_, _<_}
+-- The two makers of a list of inputs in the order to be split (request 6): their checks, their answers and their buffers.
+use Prim.Native.Nat.{ℕ}
 use mathlib.Core.List.{List, [], _∷_, _++_}
 use mathlib.Core.Path.{_≡_}
-use lib.ListN.{length, getD, replicate}
-use Rattle.block.specs.Block.{inputCount}
-use Rattle.block.specs.Record.{File}
+use lib.ListN.{length}
+use Rattle.block.specs.Block.{frame}
+use Rattle.block.specs.Record.{File, netCount}
 use Rattle.block.specs.Refusals.{readChecks}
-use Rattle.block.specs.Verdict.{verdict}
+use Rattle.block.specs.Verdict.{Check, verdict}
 use Rattle.block.specs.declared.Verdict.{Verdict}
-use Rattle.block.specs.declared.Verdict.the-variants as verdict-is
-use Rattle.cases.specs.Order.{coneOrder}
-use Rattle.order.specs.declared.OrderAnswer.{OrderAnswer}
-use Rattle.order.specs.declared.OrderAnswer.the-variants as answer
-use Rattle.order.specs.declared.Ordered.{Ordered}
+use Rattle.operation.specs.Arguments.{hopsCheck, tableCheck, workCheck}
+use Rattle.operation.specs.Operation.{WorkAfter}
+use Rattle.operation.specs.SplitOrder.{orderAfter}
+use Rattle.operation.specs.declared.SplitOrder.{SplitOrder}
+use Rattle.cases.specs.SplitOrder.{coneOrder, boundOrder}
+use Rattle.bounds.specs.Bounds.{simulatedDrop, envelopeDrop}
 
--- A list of 64 bytes by value: one byte an input, 0 past the inputs.
-abbrev pub filled : List ℕ → List ℕ
-filled order = order ++ replicate (64 - length order) 0
+-- The first maker takes the file alone, and makes its checks.
+unfoldable pub coneOrderMade : File → SplitOrder
+coneOrderMade file = orderAfter (verdict (readChecks file)) (coneOrder file)
 
-pub record Listed (order bytes : List ℕ) : Type 0 where
-  pub is : bytes ≡ filled order
+-- The second maker takes file, hop limit, table and work buffer, as they are lent.
+pub record BoundOrderArguments : Type 0 where
+  pub file : File
+  pub hops : ℕ
+  pub table : List ℕ
+  pub work : List ℕ
 
--- What a maker answers, and its list, by the verdict on its checks.
-abbrev pub orderAnswerAfter : Verdict → ℕ → OrderAnswer
-orderAnswerAfter verdict-is.Accepted inputs = answer.Inputs inputs
-orderAnswerAfter (verdict-is.Refused r) inputs = answer.Refused r
+-- The checks of its arguments beside the file: hop limit, length of the table and, with the count of nets, of the work buffer.
+unfoldable pub boundOrderChecks : ℕ → ℕ → ℕ → ℕ → List Check
+boundOrderChecks nets hops table work = hopsCheck hops ∷ tableCheck table ∷ workCheck nets work ∷ []
 
-abbrev pub orderAfter : Verdict → List ℕ → List ℕ
-orderAfter verdict-is.Accepted order = filled order
-orderAfter (verdict-is.Refused r) order = filled []
+-- The verdict on all of its checks, in order.
+unfoldable pub boundOrderVerdict : BoundOrderArguments → Verdict
+boundOrderVerdict given =
+    verdict
+    (readChecks (given .file)
+    ++ boundOrderChecks (netCount (given .file)) (given .hops) (length (given .table)) (length (given .work)))
 
--- The first maker takes the file alone.
-pub record ConeOrdered (file : File) (ordered : Ordered) : Type 0 where
-  pub answered : ordered .answer ≡ orderAnswerAfter (verdict (readChecks file)) (inputCount file)
-  pub listed : ordered .order ≡ orderAfter (verdict (readChecks file)) (coneOrder file)
+-- The list of the block's frame, with its hop limit and table.
+unfoldable pub frameOrder : File → ℕ → List ℕ → List ℕ
+frameOrder file hops table = boundOrder (simulatedDrop file table) (envelopeDrop file hops table) (frame file)
 
--- Keys of four numbers each, of which the first of each of the first n is 1,024 less the cone, and the others are as they were.
-pub record FirstKeys (cones : List ℕ) (n : ℕ) (given keys : List ℕ) : Type 0 where
-  pub long : length keys ≡ length given
-  pub first : (net : ℕ) → net < n → getD keys (4 * net) 0 ≡ 1024 - getD cones net 0
-  pub others : (net j : ℕ) → 1 ≤ j → j < 4 → getD keys (4 * net + j) 0 ≡ getD given (4 * net + j) 0
+-- What the second maker promises: its answer with its list, and its work buffer.
+pub record BoundOrdered (given : BoundOrderArguments) (made : SplitOrder) (work′ : List ℕ) : Type 0 where
+  pub answered : made ≡ orderAfter (boundOrderVerdict given) (frameOrder (given .file) (given .hops) (given .table))
+  pub kept : WorkAfter (boundOrderVerdict given) (given .work) work′

@@ -3,7 +3,8 @@
 use mathlib.Core.Bool.{false≢true}
 use native.Mathlib.Omega.{arith}
 use borrow.Author.Needs.{needs}
-use Rattle.search.proofs.First.{codes-long, frame-coded, first-made}
+use Rattle.cases.proofs.Frames.{codes-long, frame-coded}
+use Rattle.search.proofs.First.{first-made}
 use Rattle.search.proofs.make_first.Statement.{statement}
 use Rattle.search.proofs.make_first.Tie as tie
 

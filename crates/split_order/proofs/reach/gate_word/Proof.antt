@@ -1,4 +1,4 @@
--- `cases::choice::gate_word` meets its contract. The loop's invariant: the union of the words of the pins passed.
+-- `split_order::reach::gate_word` meets its contract. The loop's invariant: the union of the words of the pins passed.
 -- Assumes nothing.
 use Prim.Native.Nat.{_-_, _≤_}
 use mathlib.Core.Path.{_≡_, refl}
@@ -6,10 +6,10 @@ use native.Mathlib.Omega.{arith}
 use lib.ListN.{getD}
 use borrow.Author.Needs.{needs}
 use Rattle.block.specs.View.{pinOf}
-use Rattle.cases.specs.Reach.{unionBelow, gateWord}
-use Rattle.cases.proofs.Cones.{union-next}
-use Rattle.cases.proofs.choice.gate_word.Statement.{statement}
-use Rattle.cases.proofs.choice.gate_word.Tie as tie
+use Rattle.split_order.specs.Reach.{unionBelow, gateWord}
+use Rattle.split_order.proofs.Cones.{union-next}
+use Rattle.split_order.proofs.reach.gate_word.Statement.{statement}
+use Rattle.split_order.proofs.reach.gate_word.Tie as tie
 
 abbrev Inv-loop : tie.InvT-loop
 Inv-loop words gate word₀ p₀ word p = (p ≤ gate .used) × (word ≡ unionBelow p (λ q. getD words (pinOf gate q) 0))

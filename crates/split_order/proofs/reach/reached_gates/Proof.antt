@@ -1,13 +1,13 @@
--- `cases::choice::reached_gates` meets its contract. The loop's invariant: how many gates below the next net have the input's bit.
+-- `split_order::reach::reached_gates` meets its contract. The loop's invariant: how many gates below the next net have the input's bit.
 -- Assumes nothing.
 use Prim.Native.Nat.{_-_, _≤_}
 use mathlib.Core.Path.{_≡_}
 use native.Mathlib.Omega.{arith}
 use borrow.Author.Needs.{needs}
-use Rattle.cases.specs.Reach.{reachedGates}
-use Rattle.cases.proofs.Cones.{reached-none, reached-more, reached-few}
-use Rattle.cases.proofs.choice.reached_gates.Statement.{statement}
-use Rattle.cases.proofs.choice.reached_gates.Tie as tie
+use Rattle.split_order.specs.Reach.{reachedGates}
+use Rattle.split_order.proofs.Cones.{reached-none, reached-more, reached-few}
+use Rattle.split_order.proofs.reach.reached_gates.Statement.{statement}
+use Rattle.split_order.proofs.reach.reached_gates.Tie as tie
 
 abbrev Inv-loop : tie.InvT-loop
 Inv-loop words nets inputs source count₀ net₀ count net =

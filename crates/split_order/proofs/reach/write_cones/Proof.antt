@@ -1,4 +1,4 @@
--- `cases::choice::write_cones` meets its contract.
+-- `split_order::reach::write_cones` meets its contract.
 -- Assumes nothing.
 use Prim.Native.Nat.{_-_, _≤_}
 use mathlib.Core.Path.{_≡_, refl, sym, _∙_}
@@ -7,9 +7,9 @@ use borrow.Author.Needs.{needs}
 use Rattle.laws.specs.Rewritten.{Rewritten}
 use Rattle.laws.proofs.Rewritten.{rewritten-none, rewritten-next}
 use Rattle.block.specs.Block.{coneSize}
-use Rattle.cases.proofs.Cones.{reached-all}
-use Rattle.cases.proofs.choice.write_cones.Statement.{statement}
-use Rattle.cases.proofs.choice.write_cones.Tie as tie
+use Rattle.split_order.proofs.Cones.{reached-all}
+use Rattle.split_order.proofs.reach.write_cones.Statement.{statement}
+use Rattle.split_order.proofs.reach.write_cones.Tie as tie
 
 abbrev Inv-loop : tie.InvT-loop
 Inv-loop file nets inputs cones₀ words net₀ cones net = (net ≤ inputs) × Rewritten (coneSize file) 0 net cones₀ cones

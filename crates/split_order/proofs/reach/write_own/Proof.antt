@@ -1,4 +1,4 @@
--- `cases::choice::write_own` meets its contract.
+-- `split_order::reach::write_own` meets its contract.
 -- Assumes nothing.
 use Prim.Native.Nat.{_-_, _^_, _≤_}
 use mathlib.Core.Path.{_≡_}
@@ -7,8 +7,8 @@ use borrow.Author.Needs.{needs}
 use Rattle.laws.specs.Rewritten.{Rewritten}
 use Rattle.laws.proofs.Rewritten.{rewritten-none, rewritten-next}
 use Rattle.bits.proofs.Bits.{one-shifted}
-use Rattle.cases.proofs.choice.write_own.Statement.{statement}
-use Rattle.cases.proofs.choice.write_own.Tie as tie
+use Rattle.split_order.proofs.reach.write_own.Statement.{statement}
+use Rattle.split_order.proofs.reach.write_own.Tie as tie
 
 abbrev Inv-loop : tie.InvT-loop
 Inv-loop inputs words₀ input₀ words input = (input ≤ inputs) × Rewritten (λ k. 2 ^ k) 0 input words₀ words

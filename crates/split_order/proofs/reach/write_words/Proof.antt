@@ -1,4 +1,4 @@
--- `cases::choice::write_words` meets its contract. The loop's invariant: the words of the nets below the next.
+-- `split_order::reach::write_words` meets its contract. The loop's invariant: the words of the nets below the next.
 -- Assumes nothing.
 use Prim.Native.Nat.{_-_, _≤_}
 use mathlib.Core.Path.{_≡_, sym, subst, _∙_}
@@ -6,10 +6,10 @@ use native.Mathlib.Omega.{arith}
 use borrow.Author.Needs.{needs}
 use Rattle.block.specs.Accepted.{GateRecord}
 use Rattle.block.proofs.Accepted.{has-record}
-use Rattle.cases.specs.Reach.{Reached}
-use Rattle.cases.proofs.Cones.{reached-first, reached-next}
-use Rattle.cases.proofs.choice.write_words.Statement.{statement}
-use Rattle.cases.proofs.choice.write_words.Tie as tie
+use Rattle.split_order.specs.Reach.{Reached}
+use Rattle.split_order.proofs.Cones.{reached-first, reached-next}
+use Rattle.split_order.proofs.reach.write_words.Statement.{statement}
+use Rattle.split_order.proofs.reach.write_words.Tie as tie
 
 abbrev Inv-loop : tie.InvT-loop
 Inv-loop file nets inputs words₀ net₀ words net = (inputs ≤ net) × (net ≤ nets) × Reached file inputs net words

@@ -1,14 +1,14 @@
--- `order::cones::list_by_cone` meets its contract.
+-- `split_order::by_cone::list_by_cone` meets its contract.
 -- Assumes nothing.
 use Prim.Native.Nat.{ℕ}
-use mathlib.Core.Path.{_≡_, refl, sym, _∙_}
+use mathlib.Core.Path.{_∙_}
 use native.Mathlib.Omega.{arith}
 use lib.ListN.{length-replicate}
-use borrow.Author.Needs.{needs}
 use Rattle.laws.proofs.Rewritten.{rewritten-first}
-use Rattle.order.proofs.ByCone.{cone-few, listed-by-cone}
-use Rattle.order.proofs.cones.list_by_cone.Statement.{statement}
-use Rattle.order.proofs.cones.list_by_cone.Tie as tie
+use Rattle.split_order.proofs.ByCone.{cone-few, listed-by-cone}
+use borrow.Author.Needs.{needs}
+use Rattle.split_order.proofs.by_cone.list_by_cone.Statement.{statement}
+use Rattle.split_order.proofs.by_cone.list_by_cone.Tie as tie
 
 slice-aggregate-write-cones : tie.Need-slice-aggregate-write-cones
 slice-aggregate-write-cones c = search needs
@@ -23,7 +23,14 @@ slice-aggregate-write-keys-2 : tie.Need-slice-aggregate-write-keys-2
 slice-aggregate-write-keys-2 c = search needs
 
 write-keys-requires : tie.Need-write-keys-requires
-write-keys-requires c κs = (let s = c .before .before .before .before .before .before in let w = c .before .before .before .write-cones .ensures in (s .pre .few-inputs, omega (arith, s .pre .few-inputs, w .long, length-replicate {A = ℕ} 64 0), (λ net h. rw (rewritten-first _ _ _ _ w net h) (cone-few _ _ _ net (s .pre))), length-replicate {A = ℕ} 256 0))
+write-keys-requires c κs =
+    let s = c .before .before .before .before .before .before in
+    let w = c .before .before .before .write-cones .ensures in (
+      s .pre .few-inputs,
+      omega (arith, s .pre .few-inputs, w .long, length-replicate {A = ℕ} 64 0),
+      (λ net h. rw (rewritten-first _ _ _ _ w net h) (cone-few _ _ _ net (s .pre))),
+      length-replicate {A = ℕ} 256 0,
+    )
 
 slice-aggregate-sorted : tie.Need-slice-aggregate-sorted
 slice-aggregate-sorted c = search needs
@@ -32,7 +39,9 @@ sorted-requires : tie.Need-sorted-requires
 sorted-requires c κs = search needs
 
 returns : tie.Need-returns
-returns c = listed-by-cone (c .before .before .before .before .before .before .before .before .before .before .pre) (rewritten-first _ _ _ _ (c .before .before .before .before .before .before .before .write-cones .ensures)) (c .before .before .before .write-keys .ensures) (c .sorted .ensures)
+returns c =
+    let cones = c .before .before .before .before .before .before .before .write-cones .last .1 .1 .1 .0 in
+    listed-by-cone cones _ (c .before .before .before .before .before .before .before .before .before .before .pre) (rewritten-first _ _ _ _ (c .before .before .before .before .before .before .before .write-cones .ensures)) (c .before .before .before .write-keys .ensures) (c .sorted .ensures)
 
 pub list-by-cone-spec : {M : Type 1} → statement M
 list-by-cone-spec =
