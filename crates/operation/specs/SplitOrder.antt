@@ -9,6 +9,7 @@ use Rattle.laws.specs.Below.{allBelow, indicator}
 use Rattle.block.specs.Verdict.{Check, check}
 use Rattle.block.specs.declared.Verdict.{Verdict}
 use Rattle.block.specs.declared.Verdict.the-variants.{Accepted, Refused}
+use Rattle.operation.specs.declared.OrderAnswer.{OrderAnswer}
 use Rattle.operation.specs.declared.OrderAnswer.the-variants as answer
 use Rattle.operation.specs.declared.SplitOrder.{SplitOrder}
 
@@ -37,3 +38,8 @@ listBytes order = order ++ replicate (64 - length order) 0
 abbrev pub orderAfter : Verdict → List ℕ → SplitOrder
 orderAfter Accepted order = record { answer = answer.Inputs (length order); nets = listBytes order }
 orderAfter (Refused r) order = record { answer = answer.Refused r; nets = listBytes [] }
+
+-- A lent list after a maker's call: the maker's where it answered with the count, as it was at a refusal.
+abbrev pub listAfter : OrderAnswer → List ℕ → List ℕ → List ℕ
+listAfter (answer.Inputs inputs) made given = made
+listAfter (answer.Refused r) made given = given

@@ -12,8 +12,9 @@ use Rattle.block.specs.declared.Verdict.{Verdict}
 use Rattle.block.specs.declared.Verdict.the-variants.{Accepted, Refused}
 use Rattle.block.proofs.Numbered.{read-numbered}
 use Rattle.block.proofs.Verdicts.{apart}
-use Rattle.operation.specs.Numbers.{readNumbers, currentsNumbers, searchNumbers}
+use Rattle.operation.specs.Numbers.{readNumbers, currentsNumbers, orderNumbers, searchNumbers}
 use Rattle.operation.specs.Operation.{answerAfter}
+use Rattle.operation.specs.SplitOrder.{orderAfter}
 use Rattle.operation.specs.declared.Currents.{Currents}
 use Rattle.bench.specs.Bench.{benchRecords, benchVerdict, benchAnswerAfter}
 use Rattle.bench.proofs.Answers.{bench-numbered}
@@ -22,6 +23,9 @@ use Rattle.simulator.specs.Simulate as simulate
 use Rattle.simulator.proofs.Answers.{simulate-numbered}
 use Rattle.envelope.specs.Envelope as envelope
 use Rattle.envelope.proofs.Answers.{envelope-numbered}
+use Rattle.cases.specs.SplitOrder.{coneOrder}
+use Rattle.split_order.specs.SplitOrder.{coneOrderMade, boundOrderVerdict, frameOrder}
+use Rattle.split_order.proofs.ByBounds.{bound-order-numbered}
 use Rattle.search.specs.Search.{foundBy, searchVerdict, searchAnswerAfter}
 use Rattle.search.proofs.Accepted.{search-numbered}
 use Rattle.zimgurav.specs.Calls.{benchNumbers}
@@ -47,7 +51,13 @@ unfolding readOf
 read-accepted file =
     zero-means-accepted (λ v. readNumbers (answerTo file v)) refl (λ r. refl) (verdict (readChecks file)) (λ r e. read-numbered file r (ap (answerTo file) e))
 
+order-accepted : (v : Verdict) (order : List ℕ) {numbers : List ℕ} → numbers ≡ orderNumbers (orderAfter v order .answer)
+    → ((r : Refusal) → v ≡ Refused r → 1 ≤ r .number) → ZeroMeansAccepted v numbers
+order-accepted v order told numbered =
+    subst (ZeroMeansAccepted v) (sym told) (zero-means-accepted (λ w. orderNumbers (orderAfter w order .answer)) refl (λ r. refl) v numbered)
+
 pub accepted-calls : AcceptedCalls
+unfolding readOf coneOrderMade
 accepted-calls = record {
   read = read-accepted;
   bench = λ given records′ numbers call.
@@ -60,6 +70,10 @@ accepted-calls = record {
   simulate = λ given sheet′ work′ numbers call.
       currents-accepted (simulate.simulateVerdict given) (currentsOf (given .table) (simulate.givenSheet given)) (call .answered)
       (simulate-numbered given);
+  cone-order = λ file order order′ numbers call.
+      order-accepted (verdict (readChecks file)) (coneOrder file) (call .answered) (λ r e. read-numbered file r (ap (answerTo file) e));
+  bound-order = λ given order work′ order′ numbers call.
+      order-accepted (boundOrderVerdict given) (frameOrder (given .file) (given .hops) (given .table)) (call .answered) (bound-order-numbered given);
   search = λ given sheet′ pattern′ work′ store′ numbers call.
       subst (ZeroMeansAccepted (searchVerdict given)) (sym (call .numbered ∙ ap searchNumbers (call .searched .answered)))
       (zero-means-accepted (λ v. searchNumbers (searchAnswerAfter v (foundBy given))) refl (λ r. refl) (searchVerdict given) (search-numbered given));

@@ -1,15 +1,19 @@
 // The functions that C and Rust call. Each answer goes into a lent array of eight numbers.
 ghost use mathlib.Core.Path.{_≡_};
 ghost use Rattle.block.specs.Refusals.{readOf};
-ghost use Rattle.operation.specs.Numbers.{refusalNumbers, readNumbers, currentsNumbers, outcomeNumber, searchNumbers};
-ghost use Rattle.zimgurav.specs.Calls.{version, benchNumbers, BenchCalled, EnvelopeCalled, SimulateCalled, SearchCalled};
+ghost use Rattle.operation.specs.Numbers.{refusalNumbers, readNumbers, currentsNumbers, orderNumbers, outcomeNumber, searchNumbers};
+ghost use Rattle.operation.specs.SplitOrder.{listAfter};
+ghost use Rattle.zimgurav.specs.Calls.{version, benchNumbers, BenchCalled, EnvelopeCalled, SimulateCalled, ConeOrderCalled, BoundOrderCalled, SearchCalled};
 use bench::BenchAnswer;
 use block::ReadAnswer;
 use block::Refusal;
 use operation::CurrentsAnswer;
+use operation::OrderAnswer;
 use operation::Outcome;
 use operation::SearchAnswer;
 use sheet::Word;
+use split_order::by_bounds;
+use split_order::by_cone;
 
 // A refusal as eight numbers.
 fn refusal_numbers(r: Refusal) -> [u64; 8]
@@ -45,6 +49,26 @@ fn currents_numbers(answer: CurrentsAnswer) -> [u64; 8]
     match answer {
         CurrentsAnswer::Found(currents) => [0, currents.drop, currents.quiet, 0, 0, 0, 0, 0],
         CurrentsAnswer::Refused(r) => refusal_numbers(r),
+    }
+}
+
+// The answer of a maker of a list of inputs as eight numbers.
+fn order_numbers(answer: OrderAnswer) -> [u64; 8]
+    ensures { λ r. ⌜ r ≡ orderNumbers answer ⌝ }
+{
+    match answer {
+        OrderAnswer::Inputs(inputs) => [0, inputs, 0, 0, 0, 0, 0, 0],
+        OrderAnswer::Refused(r) => refusal_numbers(r),
+    }
+}
+
+// The lent list after a maker's call: the maker's list, or as it was where the call was refused.
+fn list_after(answer: OrderAnswer, made: [u8; 64], given: [u8; 64]) -> [u8; 64]
+    ensures { λ r. ⌜ r ≡ listAfter answer made given ⌝ }
+{
+    match answer {
+        OrderAnswer::Inputs(_) => made,
+        OrderAnswer::Refused(_) => given,
     }
 }
 
@@ -88,7 +112,7 @@ fn search_numbers(answer: SearchAnswer) -> [u64; 8]
 pub extern "C" fn zimgurav_version() -> u64
     ensures { λ r. ⌜ r ≡ version ⌝ }
 {
-    5
+    6
 }
 
 // Read: the file's counts of nets and inputs, or its refusal.
@@ -142,8 +166,39 @@ pub extern "C" fn zimgurav_simulate(
     *answer = currents_numbers(simulator::simulate(file, table, sheet, pattern, work));
 }
 
+// The first maker of a list of inputs in the order to be split, by cone: how many inputs it names, or the refusal.
+#[no_mangle]
+pub extern "C" fn zimgurav_cone_order(file: &[u8], order: &mut [u8; 64], answer: &mut [u64; 8])
+    ensures { λ _. ⌜ ConeOrderCalled (now (file .entry)) (now (order .entry)) (now (order .exit)) (now (answer .exit)) ⌝ }
+{
+    let made = by_cone::cone_order(file);
+    let told = made.answer;
+    let nets = made.nets;
+    *order = list_after(told, nets, *order);
+    *answer = order_numbers(told);
+}
+
+// The second maker, by the bounds of each input's children: how many inputs its list names, or the refusal.
+#[no_mangle]
+pub extern "C" fn zimgurav_bound_order(
+    file: &[u8],
+    hops: u64,
+    table: &[u16],
+    work: &mut [u8],
+    order: &mut [u8; 64],
+    answer: &mut [u64; 8],
+)
+    ensures { λ _. ⌜ BoundOrderCalled (record { file = now (file .entry); hops = hops; table = now (table .entry); work = now (work .entry) }) (now (order .entry)) (now (work .exit)) (now (order .exit)) (now (answer .exit)) ⌝ }
+{
+    let made = by_bounds::bound_order(file, hops, table, work);
+    let told = made.answer;
+    let nets = made.nets;
+    *order = list_after(told, nets, *order);
+    *answer = order_numbers(told);
+}
+
 // Search: the outcome, U, L, splits and cases of the best-first search and the quiet tick of its final sheet, with its sheet, pattern and
-// cases in their buffers, or the refusal.
+// cases in their buffers, or the refusal. Cases are split in the order of a list of inputs.
 #[no_mangle]
 pub extern "C" fn zimgurav_search(
     file: &[u8],
@@ -151,13 +206,14 @@ pub extern "C" fn zimgurav_search(
     table: &[u16],
     ratio: u64,
     budget: u64,
+    order: &[u8],
     sheet: &mut [Word],
     pattern: &mut [u8],
     work: &mut [u8],
     store: &mut [u8],
     answer: &mut [u64; 8],
 )
-    ensures { λ _. ⌜ SearchCalled (record { file = now (file .entry); hops = hops; table = now (table .entry); ratio = ratio; budget = budget; sheet = now (sheet .entry); pattern = now (pattern .entry); work = now (work .entry); store = now (store .entry) }) (now (sheet .exit)) (now (pattern .exit)) (now (work .exit)) (now (store .exit)) (now (answer .exit)) ⌝ }
+    ensures { λ _. ⌜ SearchCalled (record { file = now (file .entry); hops = hops; table = now (table .entry); ratio = ratio; budget = budget; order = now (order .entry); sheet = now (sheet .entry); pattern = now (pattern .entry); work = now (work .entry); store = now (store .entry) }) (now (sheet .exit)) (now (pattern .exit)) (now (work .exit)) (now (store .exit)) (now (answer .exit)) ⌝ }
 {
     *answer = search_numbers(search::search(
         file,
@@ -165,6 +221,7 @@ pub extern "C" fn zimgurav_search(
         table,
         ratio,
         budget,
+        order,
         sheet,
         pattern,
         work,
