@@ -21,11 +21,12 @@ use Rattle.operation.specs.declared.Found.{Found}
 use Rattle.operation.specs.declared.SearchAnswer.{SearchAnswer}
 use Rattle.operation.specs.declared.SearchAnswer.the-variants as answer
 use Rattle.operation.proofs.Operations.{by-file}
+use Rattle.cases.specs.SplitOrder.{coneOrder}
 use Rattle.search.specs.Search.{searchOf, argumentChecks, searchVerdict, foundBy, searchAnswerAfter, Searched}
 use Rattle.search.proofs.Agreement.{pattern-handed}
 use Rattle.program.specs.declared.Text.{Text}
 use Rattle.program.specs.Lines.{line, written, Printed}
-use Rattle.program.specs.Program.{mostBytes, programArguments, foundWords, patternWords, refusalText, answerText, searchText, programText}
+use Rattle.program.specs.Program.{mostBytes, argumentsWith, programArguments, foundWords, patternWords, refusalText, answerText, searchText, programText}
 
 -- A byte more than the program takes, or no more than it takes.
 
@@ -50,17 +51,22 @@ read-enough file =
 abbrev pub programChecks : File → ℕ → ℕ → List Check
 programChecks file nets inputs =
     let given = programArguments file in
-    argumentChecks nets (given .hops) (length (given .table)) (given .ratio) (given .budget) (length (given .sheet)) (length (given .pattern))
+    argumentChecks nets inputs (given .hops) (length (given .table)) (given .ratio) (given .budget) (given .order) (length (given .sheet)) (length (given .pattern))
     (length (given .work)) (length (given .store))
+
+-- What Search promises with a list that is the first maker's.
+pub searched-with : (order : List ℕ) (file : File) {a : SearchAnswer} {sheet′ pattern′ work′ store′ : List ℕ} → order ≡ coneOrder file
+    → Searched (argumentsWith order file) a sheet′ pattern′ work′ store′ → Searched (programArguments file) a sheet′ pattern′ work′ store′
+searched-with order file {a} {sheet′} {pattern′} {work′} {store′} is s = subst (λ list. Searched (argumentsWith list file) a sheet′ pattern′ work′ store′) is s
 
 module _ (file : File) where
   -- What Read refuses, Search refuses.
-  pub read-refused : {read : ReadAnswer} {r : Refusal} → read ≡ readOf file → read ≡ read-answer.Refused r → refusalText r ≡ searchText file
-  unfolding searchText searchVerdict programArguments
-  read-refused {read} {r} is told =
+  pub read-refused : {r : Refusal} → readOf file ≡ read-answer.Refused r → refusalText r ≡ searchText file
+  unfolding searchText searchVerdict argumentsWith
+  read-refused {r} told =
       by-file file (programChecks file)
       (λ v. refusalText r ≡ answerText (searchAnswerAfter v (foundBy (programArguments file))) (searchOf (programArguments file) .state .best .pattern))
-      is told refl
+      refl told refl
 
   module _ {a : SearchAnswer} {sheet′ pattern′ work′ store′ : List ℕ} (s : Searched (programArguments file) a sheet′ pattern′ work′ store′) where
     -- Search's refusal.
@@ -71,7 +77,7 @@ module _ (file : File) where
     -- What Search found, and its pattern, of which the buffer has a byte for each input.
     found-text : {found : Found} → a ≡ answer.Found found
         → line (foundWords found) ++ line (patternWords (patternOf (inputCount file) pattern′)) ≡ searchText file
-    unfolding searchText programArguments
+    unfolding searchText argumentsWith
     found-text {found} told =
         ap (λ p. line (foundWords found) ++ line (patternWords p))
         (pattern-handed (programArguments file) found sheet′ pattern′ work′ store′ (subst (λ b. Searched (programArguments file) b sheet′ pattern′ work′ store′) told s))

@@ -1,4 +1,4 @@
--- What the program prints (document 01, "Program").
+-- What the program prints (document 01, "Program"; request 6).
 use Prim.Native.Nat.{ℕ, _+_, _*_}
 use mathlib.Core.Bool.{true, false, cond}
 use mathlib.Core.List.{List, [], _∷_, _++_, map}
@@ -14,6 +14,7 @@ use Rattle.operation.specs.declared.Outcome.{Outcome}
 use Rattle.operation.specs.declared.Outcome.the-variants.{Exact, Within, Spent}
 use Rattle.operation.specs.declared.SearchAnswer.{SearchAnswer}
 use Rattle.operation.specs.declared.SearchAnswer.the-variants as answer
+use Rattle.cases.specs.SplitOrder.{coneOrder}
 use Rattle.search.specs.Search.{SearchArguments, searchOf, searchAnswer}
 use Rattle.program.specs.Lines.{decimal, line}
 
@@ -21,19 +22,24 @@ use Rattle.program.specs.Lines.{decimal, line}
 abbrev pub mostBytes : ℕ
 mostBytes = 256 * 20
 
--- One node of 16 resistances of 1, hops 10, ratio 1,000, budget 200. The program's own buffers serve 256 nets and that budget.
-unfoldable pub programArguments : File → SearchArguments
-programArguments file = record {
+-- One node of 16 resistances of 1, hops 10, ratio 1,000, budget 200, and the first maker's list of inputs. The program's own buffers serve
+-- 256 nets and that budget.
+unfoldable pub argumentsWith : List ℕ → File → SearchArguments
+argumentsWith order file = record {
   file = file;
   hops = 10;
   table = replicate 16 1;
   ratio = 1000;
   budget = 200;
+  order = order;
   sheet = replicate 8192 0;
   pattern = replicate 64 0;
   work = replicate (160 * 256) 0;
   store = replicate (72 * (1 + 3 * 200)) 0;
 }
+
+abbrev pub programArguments : File → SearchArguments
+programArguments file = argumentsWith (coneOrder file) file
 
 -- The word of an outcome.
 abbrev pub outcomeWord : Outcome → List ℕ

@@ -3,16 +3,17 @@ ghost use mathlib.Core.List.{[], _∷_, _++_};
 ghost use mathlib.Core.Path.{_≡_};
 ghost use Prim.Native.Nat.{_≤_};
 ghost use lib.ListN.{length};
-ghost use Rattle.block.specs.Block.{inputCount};
 ghost use Rattle.excitation.specs.Excitation.{patternOf};
+ghost use Rattle.cases.specs.SplitOrder.{coneOrder};
 ghost use Rattle.program.specs.Lines.{line, written, Printed};
 ghost use Rattle.program.specs.Program.{outcomeWord, refusalText, foundWords, patternWords, searchText, programText};
-use block::ReadAnswer;
 use block::Refusal;
 use operation::Found;
+use operation::OrderAnswer;
 use operation::Outcome;
 use operation::SearchAnswer;
 use sheet::Word;
+use split_order::by_cone;
 
 mod lines;
 
@@ -87,9 +88,9 @@ fn pattern_line(before: Text, pattern: &[u8], inputs: usize) -> Text
     text
 }
 
-// Searches an accepted file. The buffers serve 256 nets and the budget.
-fn search_text(file: &[u8], inputs: usize) -> Text
-    requires { ⌜ (inputs ≡ inputCount (now file)) × (1 ≤ inputs) × (inputs ≤ 64) ⌝ }
+// Searches an accepted file, with the list that the first maker makes of it. The buffers serve 256 nets and the budget.
+fn search_text(file: &[u8], order: &[u8]) -> Text
+    requires { ⌜ (now order ≡ coneOrder (now file)) × (1 ≤ length (now order)) × (length (now order) ≤ 64) ⌝ }
     ensures { λ t. ⌜ Printed (searchText (now (file .entry))) t ⌝ }
 {
     let table = [1u16; 16];
@@ -103,18 +104,19 @@ fn search_text(file: &[u8], inputs: usize) -> Text
         &table,
         RATIO,
         BUDGET,
+        order,
         &mut sheet,
         &mut pattern,
         &mut work,
         &mut store,
     ) {
         SearchAnswer::Refused(r) => refusal_text(r),
-        SearchAnswer::Found(found) => pattern_line(found_line(found), &pattern, inputs),
+        SearchAnswer::Found(found) => pattern_line(found_line(found), &pattern, order.len()),
     }
 }
 
-// What the program prints for the bytes that it has read. A byte more than it takes is refusal 2, before any other check. Read is asked
-// for the number of inputs, which Search's answer does not have; what it refuses, Search refuses likewise.
+// What the program prints for the bytes that it has read. A byte more than it takes is refusal 2, before any other check. The first maker
+// is asked for the list of inputs; what it refuses, Search refuses likewise.
 pub fn printed(file: &[u8]) -> Text
     ensures { λ t. ⌜ Printed (programText (now (file .entry))) t ⌝ }
 {
@@ -124,8 +126,11 @@ pub fn printed(file: &[u8]) -> Text
             place: 0,
         });
     }
-    match block::read(file) {
-        ReadAnswer::Refused(r) => refusal_text(r),
-        ReadAnswer::Counts { nets: _, inputs } => search_text(file, inputs as usize),
+    let made = by_cone::cone_order(file);
+    let answer = made.answer;
+    let nets = made.nets;
+    match answer {
+        OrderAnswer::Refused(r) => refusal_text(r),
+        OrderAnswer::Inputs(inputs) => search_text(file, &nets[..inputs as usize]),
     }
 }

@@ -2,11 +2,12 @@
 -- Assumes nothing.
 use Prim.Native.Nat.{ℕ, suc, _-_, _≤_, _<_}
 use mathlib.Core.Bool.{Bool, true, false}
-use mathlib.Core.List.{List, [], _∷_}
+use mathlib.Core.List.{List, [], _∷_, _++_}
 use mathlib.Core.Path.{_≡_, refl, ap, sym, _∙_}
 use native.Mathlib.Omega.{arith}
 use lib.Dec.{eqb, ltb}
-use lib.ListN.{length, getD}
+use lib.ListN.{length, getD, take, replicate, length-append}
+use lib.Seq.{take-at}
 use borrow.Author.Tests.{ltb-true, ltb-false, lt-ltb, le-ltb}
 use borrow.Table.Steps.{cases}
 use Rattle.laws.specs.Turn.{inTurn}
@@ -14,13 +15,14 @@ use Rattle.laws.proofs.Below.{count-at-most}
 use Rattle.block.specs.Accepted.{AcceptedFile}
 use Rattle.block.specs.Block.{fedFrom, coneSize, inputCount}
 use Rattle.block.specs.Record.{File, netCount}
-use Rattle.block.specs.Refusals.{readChecks, readOf}
+use Rattle.block.specs.Refusals.{readChecks, answerTo, readOf}
 use Rattle.block.specs.Verdict.{verdict}
 use Rattle.block.specs.declared.ReadAnswer.{ReadAnswer}
 use Rattle.block.specs.declared.ReadAnswer.the-variants as read-answer
 use Rattle.block.specs.declared.Refusal.{Refusal}
+use Rattle.block.specs.declared.Verdict.{Verdict}
 use Rattle.block.specs.declared.Verdict.the-variants as verdict-is
-use Rattle.block.proofs.Accepted.{counts-of, refused-verdict}
+use Rattle.block.proofs.Accepted.{accepted, counts-of, refused-verdict}
 use Rattle.operation.specs.SplitOrder.{listBytes, orderAfter}
 use Rattle.operation.specs.declared.OrderAnswer.the-variants as answer
 use Rattle.operation.specs.declared.SplitOrder.{SplitOrder}
@@ -70,6 +72,10 @@ listed-by-cone cones keys {file} {nets} {inputs} accepted are sorts made =
     ∙ ap listBytes (order-same (smaller keys) (wider (coneSize file)) inputs (λ a b h l. sorts .same a b h l ∙ rw (are a h, are b l) refl))
     ∙ ap (λ n. listBytes (inOrder (wider (coneSize file)) n)) (sym (accepted .input-count))
 
+pub cone-order-long : (file : File) → length (coneOrder file) ≡ inputCount file
+unfolding coneOrder
+cone-order-long file = order-long (wider (coneSize file)) (inputCount file)
+
 -- What the first maker returns: the file is refused, or its list is made.
 
 module _ (file : File) {read : ReadAnswer} (is : read ≡ readOf file) where
@@ -81,8 +87,47 @@ module _ (file : File) {read : ReadAnswer} (is : read ≡ readOf file) where
 
   pub cones-listed : {nets inputs : ℕ} {bytes : List ℕ} → read ≡ read-answer.Counts nets inputs → bytes ≡ listBytes (coneOrder file)
       → _≡_ {A = SplitOrder} (record { answer = answer.Inputs inputs; nets = bytes }) (coneOrderMade file)
-  unfolding readOf coneOrderMade coneOrder
+  unfolding readOf coneOrderMade
   cones-listed {nets} {inputs} told listed =
       let v = counts-of file (verdict (readChecks file)) nets inputs (sym is ∙ told) .0 in
-      let n : inputs ≡ length (coneOrder file) = sym (order-long (wider (coneSize file)) (inputCount file) ∙ file-accepted is told .input-count) in
+      let n : inputs ≡ length (coneOrder file) = sym (cone-order-long file ∙ file-accepted is told .input-count) in
       rw (v, n, listed) refl
+
+-- What the answer says: a refusal is Read's, and a count comes with the list.
+
+told-refused : (file : File) (v : Verdict) (r : Refusal) → orderAfter v (coneOrder file) .answer ≡ answer.Refused r → answerTo file v ≡ read-answer.Refused r
+told-refused file verdict-is.Accepted r e = absurd (let z : _≡_ {A = ℕ} 0 1 = cc in omega arith)
+told-refused file (verdict-is.Refused s) r e = let z : s ≡ r = cc in ap read-answer.Refused z
+
+told-inputs : (file : File) (v : Verdict) (n : ℕ) → orderAfter v (coneOrder file) .answer ≡ answer.Inputs n
+    → (v ≡ verdict-is.Accepted) × (n ≡ length (coneOrder file))
+told-inputs file verdict-is.Accepted n e = (refl, cc)
+told-inputs file (verdict-is.Refused s) n e = absurd (let z : _≡_ {A = ℕ} 0 1 = cc in omega arith)
+
+-- The first so many bytes are the list, which names at least one input and at most 64.
+pub record ListMade (file : File) (n : ℕ) (bytes : List ℕ) : Type 0 where
+  pub list : take n bytes ≡ coneOrder file
+  pub counted : n ≡ inputCount file
+  pub some : 1 ≤ n
+  pub few : n ≤ 64
+  pub room : n ≤ length bytes
+
+module _ (file : File) {made : SplitOrder} (is : made ≡ coneOrderMade file) where
+  pub refused-by-read : {r : Refusal} → made .answer ≡ answer.Refused r → readOf file ≡ read-answer.Refused r
+  unfolding coneOrderMade readOf
+  refused-by-read {r} told = told-refused file (verdict (readChecks file)) r (sym (ap (λ (m : SplitOrder). m .answer) is) ∙ told)
+
+  pub list-made : {n : ℕ} → made .answer ≡ answer.Inputs n → ListMade file n (made .nets)
+  unfolding coneOrderMade readOf listBytes
+  list-made {n} told =
+      let said = told-inputs file (verdict (readChecks file)) n (sym (ap (λ (m : SplitOrder). m .answer) is) ∙ told) in
+      let bytes : made .nets ≡ listBytes (coneOrder file) = ap (λ (m : SplitOrder). m .nets) is ∙ ap (λ v. orderAfter v (coneOrder file) .nets) (said .0) in
+      let whole = accepted file (netCount file) (inputCount file) (ap (answerTo file) (said .0)) in
+      let long = cone-order-long file in
+      record {
+        list = ap (take n) bytes ∙ take-at (coneOrder file) _ n (sym (said .1));
+        counted = said .1 ∙ long;
+        some = omega (arith, said .1, long, whole .one-input);
+        few = omega (arith, said .1, long, whole .few-inputs);
+        room = omega (arith, said .1, ap length bytes, length-append (coneOrder file) (replicate (64 - length (coneOrder file)) 0));
+      }

@@ -1,9 +1,11 @@
 -- `program::search_text` meets its contract.
 -- Assumes nothing.
-use mathlib.Core.Path.{_∙_}
+use mathlib.Core.Path.{ap, _∙_}
+use lib.ListN.{length}
+use Rattle.split_order.proofs.ByCone.{cone-order-long}
 use borrow.Author.Needs.{needs}
-use Rattle.program.specs.Program.{programArguments}
-use Rattle.program.proofs.Searches.{search-refused, search-found}
+use Rattle.program.specs.Program.{argumentsWith}
+use Rattle.program.proofs.Searches.{searched-with, search-refused, search-found}
 use Rattle.program.proofs.search_text.Statement.{statement}
 use Rattle.program.proofs.search_text.Tie as tie
 
@@ -44,23 +46,24 @@ pattern-line-requires : tie.Need-pattern-line-requires
 pattern-line-requires c κs = search needs
 
 returns : tie.Need-returns
-unfolding programArguments
+unfolding argumentsWith
 returns c =
     let called = c .before .before .before .before .before .before .before .before in
+    let start = called .before .before .before .before .before .before .before .before in
     let printed = c .refusal-text .ensures in
     record {
-      is = printed .is ∙ search-refused _ (called .search .ensures) (c .before .before .r .given .1);
+      is = printed .is ∙ search-refused _ (searched-with _ _ (start .pre .0) (called .search .ensures)) (c .before .before .r .given .1);
       fits = printed .fits;
     }
 
 returns-2 : tie.Need-returns-2
-unfolding programArguments
+unfolding argumentsWith
 returns-2 c =
     let called = c .before .before .before .before .before .before .before .before .before .before in
-    let start = called .before .before .before .before .before .before .before in
+    let start = called .before .before .before .before .before .before .before .before in
     let first = c .before .before .found-line in
-    search-found _ (called .search .ensures) (start .args .inputs) (first .result) (c .pattern-line .result)
-    (c .before .before .before .before .found .given .1) (start .pre .0) (first .ensures .0) (c .pattern-line .ensures)
+    search-found _ (searched-with _ _ (start .pre .0) (called .search .ensures)) (length (start .args .order .now)) (first .result) (c .pattern-line .result)
+    (c .before .before .before .before .found .given .1) (ap length (start .pre .0) ∙ cone-order-long _) (first .ensures .0) (c .pattern-line .ensures)
 
 pub search-text-spec : {M : Type 1} → statement M
 search-text-spec =
