@@ -4,7 +4,9 @@ use std::env;
 use std::fs;
 use std::process::ExitCode;
 
-use zimgurav::{store_bytes, work_bytes, Refusal, CONTACTS, PATTERN_BYTES, ROW_TICKS, SHEET_WORDS};
+use zimgurav::{
+    store_bytes, work_bytes, Refusal, CONTACTS, ORDER_BYTES, PATTERN_BYTES, ROW_TICKS, SHEET_WORDS,
+};
 
 /// One bus node, with a resistance of 1 milliohm to each contact.
 const TABLE: [u16; CONTACTS] = [1; CONTACTS];
@@ -31,6 +33,8 @@ fn main() -> ExitCode {
 fn compare(file: &[u8]) -> Result<(), Refusal> {
     let counts = zimgurav::read(file)?;
     let budget = 200;
+    let mut order = [0; ORDER_BYTES];
+    zimgurav::cone_order(file, &mut order)?;
     let mut ceiling = vec![0; SHEET_WORDS];
     let mut pattern = [0; PATTERN_BYTES];
     let mut work = vec![0; work_bytes(counts.nets)];
@@ -41,6 +45,7 @@ fn compare(file: &[u8]) -> Result<(), Refusal> {
         &TABLE,
         1000,
         budget,
+        &order[..counts.inputs as usize],
         &mut ceiling,
         &mut pattern,
         &mut work,
