@@ -4,8 +4,8 @@ use std::collections::BTreeMap;
 use std::{fs, iter};
 
 use zimgurav::{
-    store_bytes, work_bytes, Word, BLOCK_BYTES, CONTACTS, ORDER_BYTES, PATTERN_BYTES, RECORD_BYTES, ROW_TICKS,
-    SHEET_WORDS,
+    store_bytes, work_bytes, Word, BLOCK_BYTES, CONTACTS, ORDER_BYTES, PATTERN_BYTES, RECORD_BYTES,
+    ROW_TICKS, SHEET_WORDS,
 };
 
 use crate::run::{file, lone_input, printed, scratch};
