@@ -505,6 +505,8 @@ mod whole_answer {
                 arguments.table.len(),
                 arguments.ratio,
                 arguments.budget,
+                arguments.order.as_ptr(),
+                arguments.order.len(),
                 arguments.sheet.as_mut_ptr(),
                 arguments.sheet.len(),
                 arguments.pattern.as_mut_ptr(),
