@@ -320,6 +320,31 @@ fn random_searches() {
     );
 }
 
+/// The lists of both makers, for blocks of which some have no undecided input, and one or several.
+#[test]
+fn random_orders() {
+    let mut random = Random::new(6);
+    let mut reached = [[0; 20]; 2];
+    let mut moved = [0; 2];
+    for turn in 0..SEARCHES {
+        let arguments = random_search(&mut random);
+        let makers: [Operation<u64>; 2] = [Arguments::cone_order, Arguments::bound_order];
+        for (maker, call) in makers.into_iter().enumerate() {
+            let Compared { answer, after } = agreed(call, &arguments, turn);
+            count(&mut reached[maker], answer);
+            let inputs = answer.unwrap_or(0) as usize;
+            moved[maker] += usize::from(!after.made[..inputs].is_sorted());
+        }
+    }
+    println!("accepted, then refusals 1 to 19, by cones and by bounds: {reached:?}");
+    println!("lists that are not by net: {moved:?}");
+    for number in [0, 11, 12, 15] {
+        assert!(reached[1][number] >= 10, "reached too seldom: {reached:?}");
+    }
+    assert!(reached[0][0] > reached[1][0], "{reached:?}");
+    assert!(moved.iter().all(|&times| times >= 100), "{moved:?}");
+}
+
 /// How many records a text has before it is damaged: mostly few, seldom about as many as there can be.
 fn records_of_a_text(random: &mut Random) -> usize {
     match random.below(128) {

@@ -95,3 +95,71 @@ fn list(inputs: &[usize]) -> [u8; ORDER_BYTES] {
     }
     list
 }
+
+#[cfg(test)]
+mod tests {
+    use super::*;
+    use crate::sample::{gate, input, peaks, silent, Record};
+    use zimgurav::kind::{BUF, NOT, XOR};
+
+    /// BUF and NOT of a net. Each draws 10 where it rises: no pattern has both, their
+    /// envelopes do.
+    fn pair(net: u16) -> [Record; 2] {
+        [BUF, NOT].map(|kind| peaks(gate(kind, &[net]), [10, 0]))
+    }
+
+    /// The four numbers and the net of each undecided input, with resistances of 1.
+    fn tried_in(block: &[Record], hop_limit: u64) -> Vec<([u64; 4], usize)> {
+        let block = Block {
+            records: &records(&block.concat()),
+            hop_limit,
+            table: &[1; 16],
+        };
+        tried(&block, &Frame::of_block(block.records))
+    }
+
+    /// A split of net 0 into four leaves 30 or 20 of 40, one of net 2 into two edges
+    /// leaves 30. Net 1 is decided.
+    #[test]
+    fn four_numbers_in_falling_order() {
+        let inputs = [input(15), input(8), input(12)];
+        let block = [&inputs[..], &pair(0), &pair(2)].concat();
+        let expected = [([30, 30, 20, 20], 0), ([30, 30, 0, 0], 2)];
+        assert_eq!(tried_in(&block, 10), expected);
+    }
+
+    /// Where net 0 rises, net 5 rises at ticks 2 and 9 and net 6 at tick 5. With one hop
+    /// the envelope fills the ticks between 2 and 9, and would drop 110.
+    #[test]
+    fn decided_children_are_simulated() {
+        let delayed = [1, 3, 8, 4].map(|delay| silent(gate(BUF, &[0]), delay));
+        let xor = peaks(gate(XOR, &[1, 2, 3]), [10, 0]);
+        let buf = peaks(gate(BUF, &[4]), [100, 0]);
+        let block = [&[input(12)], &delayed[..], &[xor, buf]].concat();
+        assert_eq!(tried_in(&block, 1), [([100, 10, 0, 0], 0)]);
+    }
+
+    #[test]
+    fn ties() {
+        let two = [input(15), input(15)];
+        let tie = |gates: &[Record]| bounds_tie(&[&two, gates].concat().concat(), 10, &[1; 16]);
+        assert!(tie(&[]));
+        assert!(tie(&[pair(0), pair(1)].concat()));
+        assert!(!tie(&pair(0)));
+    }
+
+    #[test]
+    fn lists_are_0_past_the_inputs() {
+        let mut order = [7; ORDER_BYTES];
+        let block = [&[input(15), input(1), input(15)][..], &pair(2)].concat();
+        let mut expected = [0; ORDER_BYTES];
+        expected[..3].copy_from_slice(&[2, 0, 1]);
+        assert_eq!(cone_order(&block.concat(), &mut order), Ok(3));
+        assert_eq!(order, expected);
+        order.fill(7);
+        let mut work = vec![0; 160 * block.len()];
+        let inputs = bound_order(&block.concat(), 10, &[1; 16], &mut work, &mut order);
+        assert_eq!(inputs, Ok(3));
+        assert_eq!(order, expected);
+    }
+}
