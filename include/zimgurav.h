@@ -3,9 +3,9 @@
  * The library, libzimgurav.a, is for x86-64. Every value of every argument is accepted or refused; none is undefined
  * behaviour, as long as the caller keeps to the following.
  *
- * - A slice is a pointer and a length, which counts elements, not bytes. The pointer is good for that many elements.
- *   Pointers are aligned for their types and not null. That holds where the length is 0 too, though nothing is then
- *   read or written through the pointer.
+ * - A slice is a pointer and a length, which counts elements, not bytes. The pointer is good for that many elements; an
+ *   array, which has no length beside it, for as many as are declared. Pointers are aligned for their types and not
+ *   null. That holds where the length is 0 too, though nothing is then read or written through the pointer.
  * - What a pointer that is not const points to, the answer among them, overlaps nothing else that the call is lent.
  *   What is only read may overlap. What is lent to be written may hold anything before.
  * - Until the call returns, no other thread writes what it is lent, or reads what is lent to be written.

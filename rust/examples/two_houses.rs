@@ -30,11 +30,16 @@ fn main() -> ExitCode {
     ExitCode::SUCCESS
 }
 
+/// The list of the inputs, that with most gates in its fan-out cone first.
+fn by_cones(file: &[u8]) -> Result<Vec<u8>, Refusal> {
+    let mut order = [0; ORDER_BYTES];
+    let inputs = zimgurav::cone_order(file, &mut order)?;
+    Ok(order[..inputs as usize].to_vec())
+}
+
 fn compare(file: &[u8]) -> Result<(), Refusal> {
     let counts = zimgurav::read(file)?;
     let budget = 200;
-    let mut order = [0; ORDER_BYTES];
-    zimgurav::cone_order(file, &mut order)?;
     let mut ceiling = vec![0; SHEET_WORDS];
     let mut pattern = [0; PATTERN_BYTES];
     let mut work = vec![0; work_bytes(counts.nets)];
@@ -45,7 +50,7 @@ fn compare(file: &[u8]) -> Result<(), Refusal> {
         &TABLE,
         1000,
         budget,
-        &order[..counts.inputs as usize],
+        &by_cones(file)?,
         &mut ceiling,
         &mut pattern,
         &mut work,

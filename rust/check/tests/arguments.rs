@@ -640,28 +640,22 @@ mod whole_answer {
         hops.hop_limit = 17;
         assert_eq!(envelope(&mut hops), refusal(11, 0));
         assert_eq!(search(&mut hops), refusal(11, 0));
-        assert_eq!(bound_order(&mut hops), refusal(11, 0));
         let mut table = arguments();
         table.table.clear();
         assert_eq!(envelope(&mut table), refusal(12, 0));
         assert_eq!(simulate(&mut table), refusal(12, 0));
         assert_eq!(search(&mut table), refusal(12, 0));
-        assert_eq!(bound_order(&mut table), refusal(12, 0));
         let mut ratio = arguments();
         ratio.ratio = 0;
         assert_eq!(search(&mut ratio), refusal(13, 0));
         let mut budget = arguments();
         budget.budget = MOST_BUDGET + 1;
         assert_eq!(search(&mut budget), refusal(14, 0));
-        let mut order = arguments();
-        order.order.clear();
-        assert_eq!(search(&mut order), refusal(19, 0));
         let mut work = arguments();
         work.work.clear();
         assert_eq!(envelope(&mut work), refusal(15, 3));
         assert_eq!(simulate(&mut work), refusal(15, 3));
         assert_eq!(search(&mut work), refusal(15, 3));
-        assert_eq!(bound_order(&mut work), refusal(15, 3));
         let mut store = arguments();
         store.store.clear();
         assert_eq!(search(&mut store), refusal(15, 4));
@@ -673,6 +667,24 @@ mod whole_answer {
         assert_eq!(envelope(&mut file), refusal(9, 3));
         assert_eq!(simulate(&mut file), refusal(9, 3));
         assert_eq!(search(&mut file), refusal(9, 3));
+    }
+
+    #[test]
+    fn refused_lists() {
+        let mut order = arguments();
+        order.order.clear();
+        assert_eq!(search(&mut order), refusal(19, 0));
+        let mut hops = arguments();
+        hops.hop_limit = 17;
+        assert_eq!(bound_order(&mut hops), refusal(11, 0));
+        let mut table = arguments();
+        table.table.clear();
+        assert_eq!(bound_order(&mut table), refusal(12, 0));
+        let mut work = arguments();
+        work.work.clear();
+        assert_eq!(bound_order(&mut work), refusal(15, 3));
+        let mut file = arguments();
+        file.file[20 * 3 + 2] = 0;
         assert_eq!(cone_order(&mut file), refusal(9, 3));
         assert_eq!(bound_order(&mut file), refusal(9, 3));
     }

@@ -155,6 +155,10 @@ mod refusals {
             "refused 16 at net 0: an input's byte of the pattern is no excitation that the input \
              is allowed",
         );
+    }
+
+    #[test]
+    fn of_texts_and_lists_are_said() {
         says(
             refused::LINE,
             3,

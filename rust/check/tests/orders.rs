@@ -340,20 +340,23 @@ mod by_bounds {
         makes(BOUND_ORDER, &arguments, &[0, 1]);
     }
 
-    /// The block with a cap, nets 0 and 1 changed for each other: where net 0 is l, the envelope drops 210, and that
-    /// of the whole frame 200. Capped, nets 0 and 1 tie with 200, 200, 0, 0. Net 2 has 100, 100, 10, 10.
+    /// The block with a cap and one input more, net 3, that feeds nothing: its children drop 200 as the whole frame
+    /// does. So do those of nets 0 and 1, capped: where net 1 is l, the envelope drops 210. Net 2 has 100, 100, 10, 10.
     #[test]
     fn caps_the_children_by_the_whole_frame() {
         let mut block = block_with_a_cap();
-        for delayed in &mut block[3..10] {
-            delayed[4] = 1 - delayed[4];
+        for gate in &mut block[3..] {
+            let pins = gate[4..12].as_chunks_mut::<2>().0.iter_mut();
+            let of_gates = pins.filter(|pin| pin[0] >= 3);
+            of_gates.for_each(|pin| pin[0] += 1);
         }
+        block.insert(3, input(3));
         let mut arguments = Arguments::new(&block);
         arguments.hop_limit = 2;
-        makes(BOUND_ORDER, &arguments, &[2, 0, 1]);
-        let mut l_at_0 = arguments.clone();
-        l_at_0.file[18] = 1;
-        let drops = [arguments, l_at_0].map(|mut lent| lent.envelope(&SECOND).map(|it| it.drop));
+        makes(BOUND_ORDER, &arguments, &[2, 0, 1, 3]);
+        let mut l_at_1 = arguments.clone();
+        l_at_1.file[20 + 18] = 1;
+        let drops = [arguments, l_at_1].map(|mut lent| lent.envelope(&SECOND).map(|it| it.drop));
         assert_eq!(drops, [Ok(200), Ok(210)]);
     }
 

@@ -56,14 +56,7 @@ pub fn search(
     write_pattern(search.best_probe(), pattern);
     write_sheet(&block, &search.cases, sheet);
     write_store(&search.cases, store);
-    Ok(Found {
-        outcome,
-        upper: search.upper(),
-        lower: search.lower(),
-        splits: search.splits,
-        cases: search.cases.len() as u64,
-        quiet: quiet_tick(sheet),
-    })
+    Ok(search.found(outcome, quiet_tick(sheet)))
 }
 
 /// A case: a frame inside the block's, and its upper number.
@@ -153,6 +146,18 @@ impl<'a> Search<'a> {
             Some(Outcome::Spent)
         } else {
             None
+        }
+    }
+
+    /// The answer: outcome, U, L, splits, cases and quiet tick.
+    fn found(&self, outcome: Outcome, quiet: u64) -> Found {
+        Found {
+            outcome,
+            upper: self.upper(),
+            lower: self.lower(),
+            splits: self.splits,
+            cases: self.cases.len() as u64,
+            quiet,
         }
     }
 

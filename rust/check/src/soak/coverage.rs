@@ -178,7 +178,7 @@ impl Coverage {
 
     /// Counts the list of an accepted search: whether it is the one of the cones and whether it is the
     /// one of the bounds.
-    pub fn count_list(&mut self, by_cones: bool, by_bounds: bool) {
+    pub fn count_list(&mut self, [by_cones, by_bounds]: [bool; 2]) {
         self.lists[usize::from(by_cones) + 2 * usize::from(by_bounds)] += 1;
     }
 
@@ -292,10 +292,9 @@ mod tests {
     #[test]
     fn lists_undecided_inputs_and_ties() {
         let mut coverage = Coverage::default();
-        coverage.count_list(true, true);
-        coverage.count_list(true, false);
-        coverage.count_list(true, false);
-        coverage.count_list(false, false);
+        for is_list in [[true, true], [true, false], [true, false], [false, false]] {
+            coverage.count_list(is_list);
+        }
         for (sets, tie) in [(&[1, 2][..], false), (&[3, 8, 15], true), (&[15], false)] {
             let inputs: Vec<_> = sets.iter().map(|&set| input(set)).collect();
             coverage.count_tried(&Arguments::new(&inputs), tie);

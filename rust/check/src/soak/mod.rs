@@ -98,13 +98,7 @@ fn compare_calls(
 
     compare_envelopes(pair, arguments, read.answer, coverage).map_err(of_operation(1))?;
     compare_simulations(pair, arguments, coverage).map_err(of_operation(2))?;
-    let by_cones = compare_makers(pair, Arguments::cone_order, 5, arguments, coverage)?;
-    let by_bounds = compare_makers(pair, Arguments::bound_order, 6, arguments, coverage)?;
-    if by_bounds.is_some() {
-        let (file, hop_limit) = (&arguments.file, arguments.hop_limit);
-        let tie = second::bounds_tie(file, hop_limit, &arguments.table);
-        coverage.count_tried(arguments, tie);
-    }
+    let lists = compare_makers(pair, arguments, coverage)?;
 
     let search = compare(pair, Arguments::search, arguments).map_err(of_operation(3))?;
     coverage.count_answer(3, &search.answer);
@@ -112,8 +106,7 @@ fn compare_calls(
         let lent = search.after;
         coverage.count_search(&found);
         coverage.count_sheet(&lent.sheet);
-        let is_list = |made: Option<Vec<u8>>| made.as_ref() == Some(&lent.order);
-        coverage.count_list(is_list(by_cones), is_list(by_bounds));
+        coverage.count_list(lists.map(|list| list.as_ref() == Some(&lent.order)));
         hold_against_simulations(&pair[0], &Searched { lent, found }, random, coverage)
             .map_err(|seen| format!("Search against Simulate: {seen}"))?;
     }
@@ -163,9 +156,26 @@ fn compare_simulations(
     Ok(())
 }
 
+/// Makes the list by cones and the one by bounds in both implementations, and counts what the bounds were like.
+/// Returns the lists of accepted calls.
+fn compare_makers(
+    pair: &[Implementation; 2],
+    arguments: &Arguments,
+    coverage: &mut Coverage,
+) -> Result<[Option<Vec<u8>>; 2], String> {
+    let by_cones = compare_lists(pair, Arguments::cone_order, 5, arguments, coverage)?;
+    let by_bounds = compare_lists(pair, Arguments::bound_order, 6, arguments, coverage)?;
+    if by_bounds.is_some() {
+        let (file, hop_limit) = (&arguments.file, arguments.hop_limit);
+        let tie = second::bounds_tie(file, hop_limit, &arguments.table);
+        coverage.count_tried(arguments, tie);
+    }
+    Ok([by_cones, by_bounds])
+}
+
 /// Makes a list of inputs in both implementations. Returns the list that an accepted call made, which has each
 /// input once.
-fn compare_makers(
+fn compare_lists(
     pair: &[Implementation; 2],
     maker: Operation<u64>,
     operation: usize,
