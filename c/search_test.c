@@ -7,6 +7,9 @@ enum { NETS = 3, BUDGET = 200, UPPER = 64 };
 /* One bus node, with a resistance to contact 0. */
 static const uint16_t table[CONTACTS] = {1};
 
+/* The list of the one input. */
+static const uint8_t order[] = {0};
+
 /* What a call is lent to write, and the answer. */
 struct lent {
     zimgurav_word sheet[WORDS];
@@ -23,8 +26,8 @@ static void search(uint64_t ratio, uint64_t budget)
 {
     memset(&untouched, 0xEE, sizeof untouched);
     lent = untouched;
-    zimgurav_search(block_s, sizeof block_s, 10, table, CONTACTS, ratio, budget, lent.sheet, WORDS, lent.pattern,
-                    PATTERN, lent.work, sizeof lent.work, lent.store, sizeof lent.store, lent.answer);
+    zimgurav_search(block_s, sizeof block_s, 10, table, CONTACTS, ratio, budget, order, sizeof order, lent.sheet, WORDS,
+                    lent.pattern, PATTERN, lent.work, sizeof lent.work, lent.store, sizeof lent.store, lent.answer);
 }
 
 /* Returns how many words of the sheet are not as expected: `current` at contact 0, tick 1, and 0 elsewhere. */

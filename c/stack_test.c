@@ -18,6 +18,8 @@ static uint8_t file[RECORD * NETS];
 static uint16_t table[CONTACTS * ZIMGURAV_MOST_NODES];
 static zimgurav_word sheet[WORDS];
 static uint8_t pattern[PATTERN];
+static uint8_t by_net[INPUTS];
+static uint8_t order[ORDER];
 static uint8_t work[ZIMGURAV_WORK_BYTES(NETS)];
 static uint8_t store[ZIMGURAV_STORE_BYTES(BUDGET)];
 static char text[LINE * NETS];
@@ -26,7 +28,8 @@ static uint8_t list[LIST];
 static uint8_t records[BLOCK];
 static uint64_t answer[NUMBERS];
 
-/* Gates of every kind and pin count, each fed by nets 64 to 127 before it, so that there are at most 15 in a row. */
+/* Gates of every kind and pin count, each fed by nets 64 to 127 before it, so that there are at most 15 in a row. The
+ * inputs are listed by net. */
 static void make_block(void)
 {
     for (int net = 0; net < NETS; net++) {
@@ -37,6 +40,7 @@ static void make_block(void)
         record[0] = (uint8_t)kind;
         if (kind == 1) {
             record[18] = 15;
+            by_net[net] = (uint8_t)net;
             continue;
         }
         record[1] = (uint8_t)(net % CONTACTS);
@@ -108,8 +112,18 @@ static void call_simulate(void)
 
 static void call_search(void)
 {
-    zimgurav_search(file, sizeof file, 2, table, sizeof table / sizeof *table, 1000, BUDGET, sheet, WORDS, pattern,
-                    PATTERN, work, sizeof work, store, sizeof store, answer);
+    zimgurav_search(file, sizeof file, 2, table, sizeof table / sizeof *table, 1000, BUDGET, by_net, sizeof by_net,
+                    sheet, WORDS, pattern, PATTERN, work, sizeof work, store, sizeof store, answer);
+}
+
+static void call_cone_order(void)
+{
+    zimgurav_cone_order(file, sizeof file, order, answer);
+}
+
+static void call_bound_order(void)
+{
+    zimgurav_bound_order(file, sizeof file, 2, table, sizeof table / sizeof *table, work, sizeof work, order, answer);
 }
 
 static void call_bench(void)
@@ -160,6 +174,7 @@ int main(void)
 {
     const uint64_t counts[NUMBERS] = {0, NETS, INPUTS};
     const uint64_t count[NUMBERS] = {0, NETS};
+    const uint64_t inputs[NUMBERS] = {0, INPUTS};
     uint8_t *const stack = make_stack();
     int wrong = 0;
 
@@ -170,6 +185,10 @@ int main(void)
     wrong += check_call("envelope", call_envelope, stack);
     wrong += check_call("read", call_read, stack);
     wrong += check_numbers("read", answer, counts);
+    wrong += check_call("cone order", call_cone_order, stack);
+    wrong += check_numbers("cone order", answer, inputs);
+    wrong += check_call("bound order", call_bound_order, stack);
+    wrong += check_numbers("bound order", answer, inputs);
     wrong += check_call("bench", call_bench, stack);
     wrong += check_numbers("bench", answer, count);
     return wrong != 0;

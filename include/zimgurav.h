@@ -3,9 +3,9 @@
  * The library, libzimgurav.a, is for x86-64. Every value of every argument is accepted or refused; none is undefined
  * behaviour, as long as the caller keeps to the following.
  *
- * - A slice is a pointer and a length, which counts elements, not bytes. The pointer is good for that many elements.
- *   Pointers are aligned for their types and not null. That holds where the length is 0 too, though nothing is then
- *   read or written through the pointer.
+ * - A slice is a pointer and a length, which counts elements, not bytes. The pointer is good for that many elements; an
+ *   array, which has no length beside it, for as many as are declared. Pointers are aligned for their types and not
+ *   null. That holds where the length is 0 too, though nothing is then read or written through the pointer.
  * - What a pointer that is not const points to, the answer among them, overlaps nothing else that the call is lent.
  *   What is only read may overlap. What is lent to be written may hold anything before.
  * - Until the call returns, no other thread writes what it is lent, or reads what is lent to be written.
@@ -44,8 +44,8 @@ extern "C" {
 #endif
 
 /* The version of the calls. It goes up with every change of what a call takes, answers or writes: two builds of one
- * version give the same answers, sheets, patterns, stores and records. */
-#define ZIMGURAV_VERSION 5
+ * version give the same answers, sheets, patterns, stores, lists and records. */
+#define ZIMGURAV_VERSION 6
 
 /* The version of the linked library, which has to be ZIMGURAV_VERSION. */
 uint64_t zimgurav_version(void);
@@ -62,6 +62,7 @@ typedef uint64_t zimgurav_word;
 #define ZIMGURAV_ROW_TICKS 512       /* ticks of a row: its words */
 #define ZIMGURAV_SHEET_WORDS 8192    /* words of a sheet: its rows, contact 0 first */
 #define ZIMGURAV_PATTERN_BYTES 64    /* bytes of a pattern */
+#define ZIMGURAV_ORDER_BYTES 64      /* bytes that a maker writes of a list of inputs: one an input, 0 past them */
 #define ZIMGURAV_CASE_BYTES 72       /* bytes of a case in the store */
 #define ZIMGURAV_ANSWER_NUMBERS 8    /* numbers of an answer */
 #define ZIMGURAV_STACK_BYTES 81920   /* bytes of stack that are enough for any call */
@@ -104,8 +105,8 @@ enum zimgurav_excitation {
 /* The set with this excitation alone. The set of several is the sum of theirs. */
 #define ZIMGURAV_SET(excitation) (1 << (excitation))
 
-/* The refusals, by their numbers. Of several that apply the lowest is answered, but of 4 to 10 that of the lowest net;
- * zimgurav_bench has an order of its own. The place is 0 where none is named. */
+/* The refusals, by their numbers. Of several that apply the lowest is answered, but of 4 to 10 that of the lowest net,
+ * and 19 comes after 14 and before 15; zimgurav_bench has an order of its own. The place is 0 where none is named. */
 enum zimgurav_refusal {
     /* The file's length is not a multiple of 20 bytes. */
     ZIMGURAV_REFUSED_LENGTH = 1,
@@ -148,7 +149,9 @@ enum zimgurav_refusal {
     ZIMGURAV_REFUSED_LINE = 17,
     /* A line of the text uses a name that no earlier line gives, or gives one that an earlier line gave.
      * The place is the line, from 1. */
-    ZIMGURAV_REFUSED_NAME = 18
+    ZIMGURAV_REFUSED_NAME = 18,
+    /* The list of inputs to split does not name each input exactly once. It is checked after 14 and before 15. */
+    ZIMGURAV_REFUSED_ORDER = 19
 };
 
 /* How a search ended. */
@@ -194,7 +197,7 @@ void zimgurav_simulate(
     uint8_t *work, size_t work_length,             /* as for zimgurav_envelope */
     uint64_t answer[ZIMGURAV_ANSWER_NUMBERS]);
 
-/* Searches, best first, for bounds on the greatest drop of any pattern of the block. Refusals 1 to 15. Writes a
+/* Searches, best first, for bounds on the greatest drop of any pattern of the block. Refusals 1 to 14, 19, 15. Writes a
  * ceiling on the current of each contact at each tick into the sheet, and a pattern that drops the lower bound.
  * Accepted: answer[1] outcome, answer[2] upper and answer[3] lower bound in nanovolts, answer[4] how many cases were
  * split, answer[5] how many cases the store holds, answer[6] the quiet tick: the last tick at which some row of the
@@ -202,6 +205,10 @@ void zimgurav_simulate(
  *
  * A case in the store is 64 bytes with the set of each input, 0 past the inputs, then its upper number, 8 bytes, low
  * first. A set is a sum of 1 (l), 2 (h), 4 (hl), 8 (lh).
+ *
+ * The list has a byte for each input, and no other: the inputs' nets, each exactly once. A case is split at the first
+ * input of the list whose set in the case has more than one member. zimgurav_cone_order and zimgurav_bound_order make a
+ * list; the bounds hold with every list.
  */
 void zimgurav_search(
     const uint8_t *file, size_t file_length,    /* the block file */
@@ -209,10 +216,36 @@ void zimgurav_search(
     const uint16_t *table, size_t table_length, /* as for zimgurav_envelope */
     uint64_t ratio,                             /* upper / lower bound to reach, in thousandths */
     uint64_t budget,                            /* the most cases to split */
+    const uint8_t *order, size_t order_length,  /* the inputs in the order to be split: as many bytes as inputs */
     zimgurav_word *sheet, size_t sheet_length,  /* ZIMGURAV_SHEET_WORDS */
     uint8_t *pattern, size_t pattern_length,    /* ZIMGURAV_PATTERN_BYTES; unchanged past the inputs */
     uint8_t *work, size_t work_length,          /* as for zimgurav_envelope */
     uint8_t *store, size_t store_length,        /* at least ZIMGURAV_STORE_BYTES; unchanged past the cases */
+    uint64_t answer[ZIMGURAV_ANSWER_NUMBERS]);
+
+/* Writes a list of the inputs for zimgurav_search, made from the block alone. Refusals 1 to 10. The input with most
+ * gates in its fan-out cone comes first, the lowest net on a tie; the cone has the gates that an input feeds, directly
+ * or through others. Whether an input is decided, its set having one member, does not matter.
+ * Accepted: answer[1] inputs: the first answer[1] bytes are the list.
+ */
+void zimgurav_cone_order(
+    const uint8_t *file, size_t file_length, /* the block file */
+    uint8_t order[ZIMGURAV_ORDER_BYTES],     /* written whole: the inputs' nets, then 0 */
+    uint64_t answer[ZIMGURAV_ANSWER_NUMBERS]);
+
+/* Writes a list of the inputs for zimgurav_search, made from bounds. Refusals 1 to 12 and 15, with place 3. Each input
+ * whose set has more than one member is tried: the upper numbers of the cases that a split of the whole frame at it
+ * makes, as zimgurav_search gives them, are sorted, the greatest first, and filled with 0 to four. The input with the
+ * smallest four comes first: with the smallest first number, on a tie with the smallest second, and so on; the lowest
+ * net where all four are equal. The inputs with one member follow by net.
+ * Accepted: answer[1] inputs: the first answer[1] bytes are the list.
+ */
+void zimgurav_bound_order(
+    const uint8_t *file, size_t file_length,    /* the block file */
+    uint64_t hop_limit,                         /* as for zimgurav_envelope */
+    const uint16_t *table, size_t table_length, /* as for zimgurav_envelope */
+    uint8_t *work, size_t work_length,          /* as for zimgurav_envelope */
+    uint8_t order[ZIMGURAV_ORDER_BYTES],        /* written whole: the inputs' nets, then 0 */
     uint64_t answer[ZIMGURAV_ANSWER_NUMBERS]);
 
 /* Turns a bench text into the records of a block. Refusals 15 and 9; then line by line 17, and after it 18; then 2, 3,

@@ -4,7 +4,9 @@ use std::env;
 use std::fs;
 use std::process::ExitCode;
 
-use zimgurav::{store_bytes, work_bytes, Refusal, CONTACTS, PATTERN_BYTES, ROW_TICKS, SHEET_WORDS};
+use zimgurav::{
+    store_bytes, work_bytes, Refusal, CONTACTS, ORDER_BYTES, PATTERN_BYTES, ROW_TICKS, SHEET_WORDS,
+};
 
 /// One bus node, with a resistance of 1 milliohm to each contact.
 const TABLE: [u16; CONTACTS] = [1; CONTACTS];
@@ -28,6 +30,13 @@ fn main() -> ExitCode {
     ExitCode::SUCCESS
 }
 
+/// The list of the inputs, that with most gates in its fan-out cone first.
+fn by_cones(file: &[u8]) -> Result<Vec<u8>, Refusal> {
+    let mut order = [0; ORDER_BYTES];
+    let inputs = zimgurav::cone_order(file, &mut order)?;
+    Ok(order[..inputs as usize].to_vec())
+}
+
 fn compare(file: &[u8]) -> Result<(), Refusal> {
     let counts = zimgurav::read(file)?;
     let budget = 200;
@@ -41,6 +50,7 @@ fn compare(file: &[u8]) -> Result<(), Refusal> {
         &TABLE,
         1000,
         budget,
+        &by_cones(file)?,
         &mut ceiling,
         &mut pattern,
         &mut work,

@@ -196,15 +196,19 @@ pub fn simulate(
 }
 
 /// Searches, best first, for bounds on the greatest drop of any pattern of the block: refusals 1 to
-/// 15.
+/// 15 and 19.
 ///
 /// The search starts with the whole frame as its one case and splits the case with the greatest
-/// upper number, until the bounds are as close as the ratio asks or the budget is spent.
+/// upper number, until the bounds are as close as the ratio asks or the budget is spent. A case is
+/// split at the first input of the list that is undecided in it: whose set has several members.
 ///
 /// - `hop_limit`, `table`, `work`: as for [`envelope`].
 /// - `ratio`: how many thousandths of the lower bound the upper may be, [`LEAST_RATIO`] to
 ///   [`MOST_RATIO`].
 /// - `budget`: the most cases to split, 0 to [`MOST_BUDGET`].
+/// - `order`: the list of the inputs in the order to be split, a byte for each input, which names
+///   each input's net exactly once. [`cone_order`] and [`bound_order`] make one; the bounds hold with
+///   every such list.
 /// - `sheet`: as for [`envelope`]; no pattern draws more current than it says.
 /// - `pattern`: as for [`simulate`]; the pattern that drops the lower bound is written there. The
 ///   bytes past the inputs are unchanged.
@@ -217,6 +221,7 @@ pub fn search(
     table: &[u16],
     ratio: u64,
     budget: u64,
+    order: &[u8],
     sheet: &mut [Word],
     pattern: &mut [u8],
     work: &mut [u8],
@@ -234,6 +239,8 @@ pub fn search(
                 table.len(),
                 ratio,
                 budget,
+                order.as_ptr(),
+                order.len(),
                 sheet.as_mut_ptr(),
                 sheet.len(),
                 pattern.as_mut_ptr(),
@@ -259,6 +266,62 @@ pub fn search(
         cases,
         quiet,
     })
+}
+
+/// Writes a list of the inputs for [`search`], made from the block alone, and returns how many inputs
+/// there are: refusals 1 to 10.
+///
+/// The input with most gates in its fan-out cone comes first, the lowest net on a tie. The cone has
+/// the gates that an input feeds, directly or through others. Whether an input is decided does not
+/// matter.
+///
+/// - `order`: a byte for each input is written, and 0 past them: `&order[..inputs as usize]` is the
+///   list.
+pub fn cone_order(file: &[u8], order: &mut [u8; ORDER_BYTES]) -> Result<u64, Refusal> {
+    let [inputs, ..] = values(|answer| {
+        // SAFETY: each pointer is of a slice, an array or the answer and good for its length, and what
+        // may be changed is lent to this call alone.
+        unsafe { raw::zimgurav_cone_order(file.as_ptr(), file.len(), order, answer) }
+    })?;
+    Ok(inputs)
+}
+
+/// Writes a list of the inputs for [`search`], made from bounds, and returns how many inputs there
+/// are: refusals 1 to 12 and 15.
+///
+/// Each undecided input is tried: the whole frame is split at it, and the upper numbers of the
+/// children, as [`search`] gives them, are sorted, the greatest first, with 0 for each child that is
+/// missing to four. The input whose four numbers are the smallest comes first: those whose first is
+/// smaller, on a tie whose second is, and so on, and the lowest net where all four are equal. Decided
+/// inputs follow by net.
+///
+/// - `hop_limit`, `table`, `work`: as for [`envelope`].
+/// - `order`: as for [`cone_order`].
+pub fn bound_order(
+    file: &[u8],
+    hop_limit: u64,
+    table: &[u16],
+    work: &mut [u8],
+    order: &mut [u8; ORDER_BYTES],
+) -> Result<u64, Refusal> {
+    let [inputs, ..] = values(|answer| {
+        // SAFETY: each pointer is of a slice, an array or the answer and good for its length, and what
+        // may be changed is lent to this call alone.
+        unsafe {
+            raw::zimgurav_bound_order(
+                file.as_ptr(),
+                file.len(),
+                hop_limit,
+                table.as_ptr(),
+                table.len(),
+                work.as_mut_ptr(),
+                work.len(),
+                order,
+                answer,
+            )
+        }
+    })?;
+    Ok(inputs)
 }
 
 /// Turns a bench text into the records of a block, and returns how many there are: refusals 2, 3, 5,

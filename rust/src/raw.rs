@@ -3,11 +3,11 @@
 //! # Safety
 //!
 //! The pointers that a call takes are aligned and not null, and each is good for as many elements as
-//! its length says, or for the answer: `*const` for reading, `*mut` for reading and writing. What a
+//! its length says, or for the array that it is of: `*const` for reading, `*mut` for reading and writing. What a
 //! `*mut` points to overlaps nothing else that the call takes. Until the call returns, no other
 //! thread writes what it takes, or reads what it may write.
 
-use crate::{Word, ANSWER_NUMBERS};
+use crate::{Word, ANSWER_NUMBERS, ORDER_BYTES};
 
 /// The numbers of an answer.
 ///
@@ -79,6 +79,8 @@ unsafe extern "C" {
         table_length: usize,
         ratio: u64,
         budget: u64,
+        order: *const u8,
+        order_length: usize,
         sheet: *mut Word,
         sheet_length: usize,
         pattern: *mut u8,
@@ -87,6 +89,36 @@ unsafe extern "C" {
         work_length: usize,
         store: *mut u8,
         store_length: usize,
+        answer: *mut Answer,
+    );
+
+    /// Writes a list of the inputs, by the gates in their fan-out cones. Accepted: 0, inputs, then 0.
+    ///
+    /// # Safety
+    ///
+    /// As the [module](self) says.
+    pub fn zimgurav_cone_order(
+        file: *const u8,
+        file_length: usize,
+        order: *mut [u8; ORDER_BYTES],
+        answer: *mut Answer,
+    );
+
+    /// Writes a list of the inputs, by the upper numbers of the cases that a split at them makes.
+    /// Accepted: 0, inputs, then 0.
+    ///
+    /// # Safety
+    ///
+    /// As the [module](self) says.
+    pub fn zimgurav_bound_order(
+        file: *const u8,
+        file_length: usize,
+        hop_limit: u64,
+        table: *const u16,
+        table_length: usize,
+        work: *mut u8,
+        work_length: usize,
+        order: *mut [u8; ORDER_BYTES],
         answer: *mut Answer,
     );
 

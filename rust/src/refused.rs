@@ -1,8 +1,9 @@
 //! The refusals, by their numbers.
 //!
-//! Of several that apply the lowest is answered, but of 4 to 10 that of the lowest net. The place
-//! is the net for 4 to 10 and for 16. For 15 it is 1 for the sheet, 2 for the pattern, 3 for the
-//! work buffer, 4 for the case store, of several the lowest. Else it is 0.
+//! Of several that apply the lowest is answered, but of 4 to 10 that of the lowest net, and 19 comes
+//! after 14 and before 15. The place is the net for 4 to 10 and for 16. For 15 it is 1 for the sheet,
+//! 2 for the pattern, 3 for the work buffer, 4 for the case store, of several the lowest. Else it is
+//! 0.
 //!
 //! [`bench`](crate::bench) has an order and places of its own. 15 comes first: 1 for the records, 2
 //! for the list. Then 9, with the row of the list, from 0. Then, line by line, 17 and after it 18,
@@ -49,4 +50,5 @@ refusals! {
                 or is an INPUT after a gate";
     NAME = 18, "a line of the text uses a name that no earlier line gives, \
                 or gives one that an earlier line gave";
+    ORDER = 19, "the list of inputs to split does not name each input exactly once";
 }

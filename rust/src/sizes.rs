@@ -3,9 +3,9 @@
 /// The version of the calls.
 ///
 /// It goes up with every change of what a call takes, answers or writes: two builds of one version
-/// give the same answers, sheets, patterns, stores and records. [`version`](crate::version) is that of
-/// the linked library, which has to be this one.
-pub const VERSION: u64 = 5;
+/// give the same answers, sheets, patterns, stores, lists and records. [`version`](crate::version) is
+/// that of the linked library, which has to be this one.
+pub const VERSION: u64 = 6;
 
 /// A word of a sheet: a current in microamperes. The pulses of a gate add up, and so do the gates of
 /// a contact, so that it can be above 32 bits.
@@ -34,6 +34,9 @@ pub const SHEET_WORDS: usize = CONTACTS * ROW_TICKS;
 
 /// The bytes of a pattern.
 pub const PATTERN_BYTES: usize = 64;
+
+/// The bytes that a maker writes of a list of inputs: one for each input, 0 past them.
+pub const ORDER_BYTES: usize = 64;
 
 /// The bytes of a case in the case store.
 pub const CASE_BYTES: usize = 72;

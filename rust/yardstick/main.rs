@@ -15,7 +15,8 @@ use check::sample::Arguments;
 use zimgurav::{Counts, Currents, Found, Outcome, Refusal, Word};
 
 /// The yardstick. Its `sums` rounds to the nearest and adds pulses up; Read is that of its `fast`, as `sums` has none.
-/// Neither Read nor Bench is timed here.
+/// Its search knows no list of inputs and splits in the order of the cones, which is the list that the timed searches
+/// have. Neither Read nor Bench nor a maker of a list is timed here.
 const YARDSTICK: Implementation = Implementation {
     name: "yardstick",
     read,
@@ -61,6 +62,7 @@ fn search(
     table: &[u16],
     ratio: u64,
     budget: u64,
+    _order: &[u8],
     sheet: &mut [Word],
     pattern: &mut [u8],
     work: &mut [u8],

@@ -2,7 +2,7 @@
 
 use crate::hash::hash;
 use crate::Implementation;
-use zimgurav::{Counts, Currents, Found, Refusal, Word};
+use zimgurav::{Counts, Currents, Found, Refusal, Word, ORDER_BYTES};
 
 /// What each byte of a lent buffer holds before a call.
 const UNUSED: u8 = 0xee;
@@ -14,13 +14,20 @@ const UNUSED: u8 = 0xee;
 ///
 /// If the line is no call.
 pub fn answer(implementation: &Implementation, call: &str) -> String {
-    let (operation, words) = call.split_once(' ').unwrap_or((call, ""));
+    let mut words = call.split(' ');
+    let operation = words.next().unwrap_or_default();
+    let words: Vec<&str> = words.collect();
     let mut lent = Lent::default();
     let accepted = match operation {
         "read" => read(implementation, arguments(words)),
         "envelope" => lent.envelope(implementation, arguments(words)),
         "simulate" => lent.simulate(implementation, arguments(words)),
-        "search" => lent.search(implementation, arguments(words)),
+        "search" => {
+            let (list, others) = list_of_search(implementation, words);
+            lent.search(implementation, &list, others)
+        }
+        "coneorder" => lent.cone_order(implementation, arguments(words)),
+        "boundorder" => lent.bound_order(implementation, arguments(words)),
         "bench" => lent.bench(implementation, arguments(words)),
         _ => panic!("no operation: {operation}"),
     };
@@ -28,10 +35,25 @@ pub fn answer(implementation: &Implementation, call: &str) -> String {
 }
 
 /// The words of the arguments, as many as an operation takes.
-fn arguments<const COUNT: usize>(words: &str) -> [&str; COUNT] {
-    let words: Vec<&str> = words.split(' ').collect();
+fn arguments<const COUNT: usize>(words: Vec<&str>) -> [&str; COUNT] {
     let arguments = words.try_into();
     arguments.unwrap_or_else(|words| panic!("not {COUNT} arguments: {words:?}"))
+}
+
+/// The list of inputs of a search, and the other arguments. The list is the sixth of ten arguments. Of
+/// nine there is none, and the search takes the first maker's: an empty one where the file is refused.
+fn list_of_search<'a>(
+    implementation: &Implementation,
+    mut words: Vec<&'a str>,
+) -> (Vec<u8>, [&'a str; 9]) {
+    let given = (words.len() == 10).then(|| bytes(words.remove(5)));
+    let others = arguments(words);
+    let list = given.unwrap_or_else(|| {
+        let mut order = [UNUSED; ORDER_BYTES];
+        let inputs = (implementation.cone_order)(&bytes(others[0]), &mut order);
+        order[..inputs.unwrap_or(0) as usize].to_vec()
+    });
+    (list, others)
 }
 
 /// Calls Read, which is lent no buffer.
@@ -47,6 +69,7 @@ struct Lent {
     pattern: Vec<u8>,
     work: Vec<u8>,
     store: Vec<u8>,
+    order: Vec<u8>,
     records: Vec<u8>,
 }
 
@@ -87,10 +110,11 @@ impl Lent {
         Ok(self.drawn(currents))
     }
 
-    /// Calls Search.
+    /// Calls Search, which only reads the list of inputs.
     fn search(
         &mut self,
         implementation: &Implementation,
+        list: &[u8],
         [file, hop_limit, table, ratio, budget, sheet, pattern, work, store]: [&str; 9],
     ) -> Result<String, Refusal> {
         self.sheet = unused_words(sheet);
@@ -103,12 +127,41 @@ impl Lent {
             &resistances(table),
             decimal(ratio),
             decimal(budget),
+            list,
             &mut self.sheet,
             &mut self.pattern,
             &mut self.work,
             &mut self.store,
         )?;
         Ok(self.found(found))
+    }
+
+    /// Calls Cone order.
+    fn cone_order(
+        &mut self,
+        implementation: &Implementation,
+        [file]: [&str; 1],
+    ) -> Result<String, Refusal> {
+        let order = unused_list(&mut self.order);
+        (implementation.cone_order)(&bytes(file), order)?;
+        Ok(format!("ok {}", hexadecimal(&self.order)))
+    }
+
+    /// Calls Bound order.
+    fn bound_order(
+        &mut self,
+        implementation: &Implementation,
+        [file, hop_limit, table, work]: [&str; 4],
+    ) -> Result<String, Refusal> {
+        self.work = unused_bytes(work);
+        (implementation.bound_order)(
+            &bytes(file),
+            decimal(hop_limit),
+            &resistances(table),
+            &mut self.work,
+            unused_list(&mut self.order),
+        )?;
+        Ok(format!("ok {}", hexadecimal(&self.order)))
     }
 
     /// Calls Bench.
@@ -137,8 +190,7 @@ impl Lent {
             cases,
             quiet,
         } = found;
-        let pattern = self.pattern.iter().map(|byte| format!("{byte:02x}"));
-        let pattern: String = pattern.collect();
+        let pattern = hexadecimal(&self.pattern);
         let sheet = hash(self.sheet_bytes());
         let store = hash(self.store.iter().copied());
         format!("{outcome} {upper} {lower} {splits} {cases} {quiet} {pattern} {sheet} {store}")
@@ -152,6 +204,7 @@ impl Lent {
             ("pattern", &self.pattern),
             ("work buffer", &self.work),
             ("case store", &self.store),
+            ("list", &self.order),
             ("record buffer", &self.records),
         ];
         let changed = buffers
@@ -175,6 +228,17 @@ fn unused_words(length: &str) -> Vec<Word> {
 /// As many bytes as the decimal number says, each as it is before a call.
 fn unused_bytes(length: &str) -> Vec<u8> {
     vec![UNUSED; decimal(length) as usize]
+}
+
+/// Lends the bytes of a list of inputs, each as it is before a call.
+fn unused_list(order: &mut Vec<u8>) -> &mut [u8; ORDER_BYTES] {
+    *order = vec![UNUSED; ORDER_BYTES];
+    order.first_chunk_mut().expect("as many bytes as were lent")
+}
+
+/// The bytes as a hexadecimal word.
+fn hexadecimal(bytes: &[u8]) -> String {
+    bytes.iter().map(|byte| format!("{byte:02x}")).collect()
 }
 
 fn decimal(word: &str) -> u64 {
@@ -213,6 +277,7 @@ fn resistances(word: &str) -> Vec<u16> {
 mod tests {
     use super::*;
     use crate::LIBRARY;
+    use zimgurav::Outcome;
 
     /// Refuses every call, and changes the last number of every buffer that the call is lent.
     const CHANGING: Implementation = Implementation {
@@ -228,11 +293,20 @@ mod tests {
             clear_last(work);
             Err(REFUSAL)
         },
-        search: |_, _, _, _, _, sheet, pattern, work, store| {
+        search: |_, _, _, _, _, _, sheet, pattern, work, store| {
             clear_last(sheet);
             clear_last(pattern);
             clear_last(work);
             clear_last(store);
+            Err(REFUSAL)
+        },
+        cone_order: |_, order| {
+            clear_last(order);
+            Err(REFUSAL)
+        },
+        bound_order: |_, _, _, work, order| {
+            clear_last(work);
+            clear_last(order);
             Err(REFUSAL)
         },
         bench: |_, _, records| {
@@ -255,13 +329,17 @@ mod tests {
     #[test]
     fn says_which_buffers_a_refusal_changed() {
         const OF_SEARCH: [&str; 4] = ["sheet", "pattern", "work buffer", "case store"];
-        let calls: [(&str, &[&str]); 7] = [
+        let calls: [(&str, &[&str]); 11] = [
             ("read -", &[]),
             ("envelope - 1 - 5 5", &["sheet", "work buffer"]),
             ("simulate - - ee 5 5", &["sheet", "work buffer"]),
             ("search - 1 - 1 1 5 5 5 5", &OF_SEARCH),
             ("search - 1 - 1 1 0 5 0 0", &["pattern"]),
             ("search - 1 - 1 1 0 0 0 0", &[]),
+            ("search - 1 - 1 1 ee 5 5 5 5", &OF_SEARCH),
+            ("coneorder -", &["list"]),
+            ("boundorder - 1 - 5", &["work buffer", "list"]),
+            ("boundorder - 1 - 0", &["list"]),
             ("bench - - 5", &["record buffer"]),
         ];
         for (call, changed) in calls {
@@ -271,6 +349,46 @@ mod tests {
             let expected = format!("refused 9 3{}", changed.collect::<String>());
             assert_eq!(answer(&CHANGING, call), expected, "{call}");
         }
+    }
+
+    /// Makes a list of two inputs unless the file is empty, and answers a search with its list: the
+    /// bytes' number as U, the first byte as L.
+    const ECHOING: Implementation = Implementation {
+        search: |_, _, _, _, _, list, _, _, _, _| {
+            Ok(Found {
+                outcome: Outcome::Exact,
+                upper: list.len() as u64,
+                lower: list.first().map_or(99, |&net| net.into()),
+                splits: 0,
+                cases: 0,
+                quiet: 0,
+            })
+        },
+        cone_order: |file, order| {
+            order[0] = *file.first().ok_or(REFUSAL)?;
+            Ok(2)
+        },
+        ..CHANGING
+    };
+
+    #[test]
+    fn a_search_without_a_list_takes_the_first_makers() {
+        for (call, expected) in [
+            ("search 07 1 - 1 1 0 0 0 0", "exact 2 7 "),
+            ("search - 1 - 1 1 0 0 0 0", "exact 0 99 "),
+            ("search 07 1 - 1 1 050403 0 0 0 0", "exact 3 5 "),
+            ("search 07 1 - 1 1 - 0 0 0 0", "exact 0 99 "),
+        ] {
+            let answer = answer(&ECHOING, call);
+            assert!(answer.starts_with(expected), "{call}: {answer}");
+        }
+    }
+
+    /// The list is handed over whole, each byte in two digits.
+    #[test]
+    fn an_accepted_maker_answers_its_list() {
+        let expected = format!("ok 07{}", "ee".repeat(ORDER_BYTES - 1));
+        assert_eq!(answer(&ECHOING, "coneorder 07"), expected);
     }
 
     #[test]

@@ -7,7 +7,9 @@ mod hash;
 mod implementation;
 
 pub use answer::answer;
-pub use implementation::{Bench, Envelope, Implementation, Read, Search, Simulate, LIBRARY};
+pub use implementation::{
+    Bench, BoundOrder, ConeOrder, Envelope, Implementation, Read, Search, Simulate, LIBRARY,
+};
 
 /// A file of stored calls.
 #[derive(Clone, Copy)]
@@ -28,12 +30,19 @@ macro_rules! stored {
 }
 
 /// The files of stored calls, in the order of their names. A program holds one copy of a static, but
-/// may hold several of a constant, and these are 4 megabytes.
-pub static STORED: [Stored; 6] =
-    stored!["arguments", "bench", "capped", "damaged", "gappy", "small"];
+/// may hold several of a constant, and these are 6 megabytes.
+pub static STORED: [Stored; 7] = stored![
+    "arguments",
+    "bench",
+    "capped",
+    "damaged",
+    "gappy",
+    "orders",
+    "small"
+];
 
 /// The digest of the right answers to the stored calls.
-pub const DIGEST: &str = "abac75f1bdb3f8de";
+pub const DIGEST: &str = "c718132653f4d7ee";
 
 /// The stored calls, in the order of their files.
 pub fn lines() -> impl Iterator<Item = &'static str> {

@@ -3,7 +3,7 @@
 //! the second implementation's time.
 
 use check::measure::{compare_sizes, full_blocks, Axis, Turns};
-use check::sample::{Arguments, Record};
+use check::sample::{cone_list, Arguments, Record};
 use zimgurav::kind::INPUT;
 
 /// The budget of the searches along every axis but its own.
@@ -26,10 +26,11 @@ fn records(arguments: &Arguments) -> &[Record] {
     arguments.file.as_chunks().0
 }
 
-/// The same arguments with another block, of at most as many records.
+/// The same arguments with another block, of at most as many records, and the list of its inputs.
 fn with_block(arguments: &Arguments, block: &[Record]) -> Arguments {
     let mut arguments = arguments.clone();
     arguments.file = block.concat();
+    arguments.order = cone_list(&arguments.file);
     arguments
 }
 

@@ -1,7 +1,7 @@
 //! Calls one operation of the library once, for a profile.
 //!
-//! The arguments are the folder of `bench.blk` and `bench.tab` and `envelope`, `simulate` or `search`; of
-//! a search also the budget.
+//! The arguments are the folder of `bench.blk` and `bench.tab` and `envelope`, `simulate`, `search`, `cone_order` or
+//! `bound_order`; of a search also the budget.
 
 use std::env;
 use std::path::Path;
@@ -23,6 +23,8 @@ fn main() {
             arguments = arguments.with_budget(budget.parse().expect("a number"));
             arguments.search(&LIBRARY).is_ok()
         }
+        ["cone_order"] => arguments.cone_order(&LIBRARY).is_ok(),
+        ["bound_order"] => arguments.bound_order(&LIBRARY).is_ok(),
         _ => panic!("an operation"),
     };
     assert!(accepted, "accepted");

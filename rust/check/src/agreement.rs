@@ -1,9 +1,10 @@
-//! What an accepted search has to satisfy by itself and against simulations of patterns.
+//! What an accepted search has to satisfy by itself and against simulations of patterns, and what a list of inputs has
+//! to that a maker answered.
 
 use crate::implementation::Implementation;
 use crate::sample::Arguments;
 use zimgurav::{
-    Currents, Found, Outcome, Word, CASE_BYTES, PATTERN_BYTES, RECORD_BYTES, ROW_TICKS,
+    Currents, Found, Outcome, Word, CASE_BYTES, ORDER_BYTES, PATTERN_BYTES, RECORD_BYTES, ROW_TICKS,
 };
 
 /// Says what is wrong, in words, where something is.
@@ -13,6 +14,15 @@ fn expect(right: bool, wrong: impl FnOnce() -> String) -> Result<(), String> {
     } else {
         Err(wrong())
     }
+}
+
+/// A list that a maker answered has each of so many inputs once, and 0 past them.
+pub fn is_a_list(made: &[u8; ORDER_BYTES], inputs: u64) -> Result<(), String> {
+    let (list, past) = made.split_at(inputs as usize);
+    let missing = (0..inputs).find(|&input| !list.contains(&(input as u8)));
+    expect(missing.is_none(), || format!("{list:?} lacks {missing:?}"))?;
+    let all_zero = past.iter().all(|&byte| byte == 0);
+    expect(all_zero, || format!("{past:?} past the inputs"))
 }
 
 /// A search that was made: the arguments as it left them and its answer.
@@ -151,5 +161,28 @@ impl Searched {
         })?;
         let one = holding.next().is_none();
         expect(one, || "two cases hold the pattern".to_string())
+    }
+}
+
+#[cfg(test)]
+mod tests {
+    use super::*;
+
+    /// The bytes of a list, then 0.
+    fn made(list: &[u8]) -> [u8; ORDER_BYTES] {
+        let mut made = [0; ORDER_BYTES];
+        made[..list.len()].copy_from_slice(list);
+        made
+    }
+
+    #[test]
+    fn lists_of_inputs() {
+        assert_eq!(is_a_list(&made(&[2, 0, 1]), 3), Ok(()));
+        let all: Vec<u8> = (0..64).rev().collect();
+        assert_eq!(is_a_list(&made(&all), 64), Ok(()));
+        let doubled = is_a_list(&made(&[2, 0, 2]), 3);
+        assert_eq!(doubled, Err("[2, 0, 2] lacks Some(1)".to_string()));
+        let past = is_a_list(&made(&[1, 0, 2]), 2).expect_err("a byte past the inputs");
+        assert!(past.starts_with("[2, 0, 0,"), "{past}");
     }
 }

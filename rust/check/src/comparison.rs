@@ -47,9 +47,11 @@ fn same(these: &Arguments, those: &Arguments) -> Result<(), String> {
     same_words("pattern", &these.pattern, &those.pattern)?;
     same_words("case store", &these.store, &those.store)?;
     same_words("work buffer", &these.work, &those.work)?;
+    same_words("made list", &these.made, &those.made)?;
     same_words("record buffer", &these.records, &those.records)?;
     same_words("file", &these.file, &those.file)?;
     same_words("table", &these.table, &those.table)?;
+    same_words("list of inputs", &these.order, &those.order)?;
     same_words("text", &these.text, &those.text)?;
     same_words("list", &these.list, &those.list)
 }
@@ -67,6 +69,7 @@ fn same_words<T: PartialEq + Display>(name: &str, these: &[T], those: &[T]) -> R
 pub mod faults {
     use super::*;
     use crate::implementation::SECOND;
+    use crate::sample::cone_list;
     use crate::second;
     use zimgurav::{Counts, Currents, Found};
 
@@ -104,9 +107,9 @@ pub mod faults {
     /// Search clears the last byte of the case store, whatever it answers.
     pub const STORE_CLEARED: Implementation = Implementation {
         name: "store cleared",
-        search: |file, hop_limit, table, ratio, budget, sheet, pattern, work, store| {
+        search: |file, hop_limit, table, ratio, budget, order, sheet, pattern, work, store| {
             let answer = second::search(
-                file, hop_limit, table, ratio, budget, sheet, pattern, work, store,
+                file, hop_limit, table, ratio, budget, order, sheet, pattern, work, store,
             );
             clear_last(store);
             answer
@@ -117,9 +120,9 @@ pub mod faults {
     /// Search hands over a drop one above its pattern's.
     pub const HIGH_LOWER: Implementation = Implementation {
         name: "high lower number",
-        search: |file, hop_limit, table, ratio, budget, sheet, pattern, work, store| {
+        search: |file, hop_limit, table, ratio, budget, order, sheet, pattern, work, store| {
             let found = second::search(
-                file, hop_limit, table, ratio, budget, sheet, pattern, work, store,
+                file, hop_limit, table, ratio, budget, order, sheet, pattern, work, store,
             )?;
             let lower = found.lower + 1;
             Ok(Found { lower, ..found })
@@ -130,12 +133,72 @@ pub mod faults {
     /// Search answers a quiet tick one too late.
     pub const LATE_SEARCH: Implementation = Implementation {
         name: "late search",
-        search: |file, hop_limit, table, ratio, budget, sheet, pattern, work, store| {
+        search: |file, hop_limit, table, ratio, budget, order, sheet, pattern, work, store| {
             let found = second::search(
-                file, hop_limit, table, ratio, budget, sheet, pattern, work, store,
+                file, hop_limit, table, ratio, budget, order, sheet, pattern, work, store,
             )?;
             let quiet = found.quiet + 1;
             Ok(Found { quiet, ..found })
+        },
+        ..SECOND
+    };
+
+    /// Search splits in the order of the cones, whatever its list says.
+    pub const LIST_IGNORED: Implementation = Implementation {
+        name: "list ignored",
+        search: |file, hop_limit, table, ratio, budget, _, sheet, pattern, work, store| {
+            let order = &cone_list(file);
+            second::search(
+                file, hop_limit, table, ratio, budget, order, sheet, pattern, work, store,
+            )
+        },
+        ..SECOND
+    };
+
+    /// Cone order lists the inputs by net.
+    pub const LIST_BY_NET: Implementation = Implementation {
+        name: "list by net",
+        cone_order: |file, order| {
+            let inputs = second::cone_order(file, order)?;
+            order[..inputs as usize].sort();
+            Ok(inputs)
+        },
+        ..SECOND
+    };
+
+    /// Cone order clears the last byte of the list, whatever it answers.
+    pub const LIST_CLEARED: Implementation = Implementation {
+        name: "list cleared",
+        cone_order: |file, order| {
+            let answer = second::cone_order(file, order);
+            clear_last(order);
+            answer
+        },
+        ..SECOND
+    };
+
+    /// Bound order names one input twice, in place of another, where there are two.
+    pub const INPUT_DOUBLED: Implementation = Implementation {
+        name: "input doubled",
+        bound_order: |file, hop_limit, table, work, order| {
+            let inputs = second::bound_order(file, hop_limit, table, work, order)?;
+            if inputs > 1 {
+                order[1] = order[0];
+            }
+            Ok(inputs)
+        },
+        ..SECOND
+    };
+
+    /// Bound order leaves the bytes past the inputs untouched.
+    pub const LIST_TOO_SHORT: Implementation = Implementation {
+        name: "list too short",
+        bound_order: |file, hop_limit, table, work, order| {
+            let before = *order;
+            let inputs = second::bound_order(file, hop_limit, table, work, order)?;
+            let past = inputs as usize;
+            order[past..].copy_from_slice(&before[past..]);
+            Ok(inputs)
         },
         ..SECOND
     };
@@ -181,7 +244,8 @@ mod tests {
     use super::faults::*;
     use super::*;
     use crate::implementation::SECOND;
-    use crate::sample::block_s;
+    use crate::sample::{block_s, gate, input, peaks};
+    use zimgurav::kind::{BUF, NOT};
 
     /// What is said of a wrong implementation's call on block S beside the second one's.
     fn said<Answer: Copy + Debug + PartialEq>(
@@ -224,6 +288,38 @@ mod tests {
         arguments.text.clear();
         let refused = said(RECORDS_CLEARED, Arguments::bench, &arguments);
         assert!(refused.starts_with("records cleared refuses and changes record buffer at"));
+    }
+
+    #[test]
+    fn reports_a_wrong_list() {
+        let block = [input(15), input(15), gate(NOT, &[1])];
+        let mut arguments = Arguments::new(&block);
+        let by_net = said(LIST_BY_NET, Arguments::cone_order, &arguments);
+        assert!(by_net.ends_with("differ: made list at 0: 0, 1"));
+        let doubled = said(INPUT_DOUBLED, Arguments::bound_order, &arguments);
+        assert!(doubled.ends_with("differ: made list at 1: 0, 1"));
+        let short = said(LIST_TOO_SHORT, Arguments::bound_order, &arguments);
+        assert!(short.ends_with("differ: made list at 2: 238, 0"));
+        arguments.file.clear();
+        let refused = said(LIST_CLEARED, Arguments::cone_order, &arguments);
+        assert!(refused.starts_with("list cleared refuses and changes made list at 63"));
+    }
+
+    /// Block S twice, and one more gate of net 1. Where net 0 is split first, it is net 0 that is l
+    /// in the first case of the store.
+    #[test]
+    fn reports_a_list_that_is_ignored() {
+        let drawn = |kind, net| peaks(gate(kind, &[net]), [10, 0]);
+        let pairs = [drawn(BUF, 0), drawn(NOT, 0), drawn(BUF, 1), drawn(NOT, 1)];
+        let block = [&[input(15), input(15)], &pairs[..], &[gate(BUF, &[1])]].concat();
+        let mut arguments = Arguments::new(&block);
+        assert_eq!(said(LIST_IGNORED, Arguments::search, &arguments), "");
+        arguments.order = vec![0, 1];
+        let ignored = said(LIST_IGNORED, Arguments::search, &arguments);
+        assert!(ignored.ends_with("differ: case store at 0: 15, 1"));
+        arguments.order = vec![0, 0];
+        let unchecked = said(LIST_IGNORED, Arguments::search, &arguments);
+        assert!(unchecked.ends_with("second Err(Refusal { number: 19, place: 0 })"));
     }
 
     #[test]

@@ -1,9 +1,11 @@
-//! Implementations of Read, Envelope, Simulate, Search and Bench, to be compared with each other, and the calls of
-//! their operations with the arguments.
+//! Implementations of Read, Envelope, Simulate, Search, the two makers of a list of inputs, and Bench, to be compared
+//! with each other, and the calls of their operations with the arguments.
 
 use crate::sample::Arguments;
 use crate::second;
-pub use calls::{Bench, Envelope, Implementation, Read, Search, Simulate, LIBRARY};
+pub use calls::{
+    Bench, BoundOrder, ConeOrder, Envelope, Implementation, Read, Search, Simulate, LIBRARY,
+};
 use zimgurav::{Counts, Currents, Found, Refusal};
 
 /// The second implementation.
@@ -13,6 +15,8 @@ pub const SECOND: Implementation = Implementation {
     envelope: second::envelope,
     simulate: second::simulate,
     search: second::search,
+    cone_order: second::cone_order,
+    bound_order: second::bound_order,
     bench: second::bench,
 };
 
@@ -55,10 +59,27 @@ impl Arguments {
             &self.table,
             self.ratio,
             self.budget,
+            &self.order,
             &mut self.sheet,
             &mut self.pattern,
             &mut self.work,
             &mut self.store,
+        )
+    }
+
+    /// Cone order with file and the bytes of the list to write.
+    pub fn cone_order(&mut self, implementation: &Implementation) -> Result<u64, Refusal> {
+        (implementation.cone_order)(&self.file, &mut self.made)
+    }
+
+    /// Bound order with those of the arguments that it takes.
+    pub fn bound_order(&mut self, implementation: &Implementation) -> Result<u64, Refusal> {
+        (implementation.bound_order)(
+            &self.file,
+            self.hop_limit,
+            &self.table,
+            &mut self.work,
+            &mut self.made,
         )
     }
 

@@ -1,4 +1,5 @@
-//! Times of Envelope, Simulate, Search and Bench, taken of several implementations in turn.
+//! Times of Envelope, Simulate, Search, Bench and the makers of a list of inputs, taken of several implementations in
+//! turn.
 
 use std::fs;
 use std::hint::black_box;
@@ -6,7 +7,7 @@ use std::path::Path;
 use std::time::Duration;
 
 use crate::implementation::{Implementation, Operation, LIBRARY, SECOND};
-use crate::sample::{Arguments, Random, Record, Shape};
+use crate::sample::{cone_list, Arguments, Random, Record, Shape};
 use zimgurav::{Currents, Found, Refusal};
 
 /// The clock of the time for which a thread has run, on x86-64 Linux.
@@ -26,7 +27,8 @@ pub struct Turns {
     pub calls: u32,
 }
 
-/// Two full blocks with 10 hops, 16 nodes, ratio 1,000 and a random pattern, by their names.
+/// Two full blocks with 10 hops, 16 nodes, ratio 1,000, the inputs in the order of their cones and a random pattern, by
+/// their names.
 pub fn full_blocks() -> [(&'static str, Arguments); 2] {
     let wide = Shape {
         inputs: 64,
@@ -55,8 +57,8 @@ fn arguments(shape: &Shape) -> Arguments {
     with_table(&mut random, &block, (1..=256).collect())
 }
 
-/// The block `bench.blk` of a folder and its table `bench.tab`, with 10 hops, ratio 1,000 and a random
-/// pattern.
+/// The block `bench.blk` of a folder and its table `bench.tab`, with 10 hops, ratio 1,000, the inputs in
+/// the order of their cones and a random pattern.
 pub fn bench_block(folder: &Path) -> Arguments {
     let read = |name| fs::read(folder.join(name)).expect("a file of the folder");
     let (file, table) = (read("bench.blk"), read("bench.tab"));
@@ -65,12 +67,14 @@ pub fn bench_block(folder: &Path) -> Arguments {
     with_table(&mut Random::new(1), file.as_chunks().0, table)
 }
 
-/// The block and the table, with 10 hops, ratio 1,000 and a random pattern.
+/// The block and the table, with 10 hops, ratio 1,000, the inputs in the order of their cones and a random
+/// pattern.
 fn with_table(random: &mut Random, block: &[Record], table: Vec<u16>) -> Arguments {
     let mut arguments = Arguments::random(random, block);
     arguments.hop_limit = 10;
     arguments.table = table;
     arguments.ratio = 1_000;
+    arguments.order = cone_list(&arguments.file);
     arguments
 }
 
@@ -124,6 +128,26 @@ pub fn compare_searches(
             print_times(implementations, &times);
             let splits = found.splits.max(1) as u32;
             println!(", {:.2?} a split", times[0] / splits);
+        }
+    }
+}
+
+/// Prints the median times of the makers of a list of inputs, and the ratio of the first implementation's
+/// to each of the others'.
+pub fn compare_makers(name: &str, arguments: &Arguments, implementations: &[Implementation]) {
+    let makers: [(&str, Operation<u64>); 2] = [
+        ("cone order", Arguments::cone_order),
+        ("bound order", Arguments::bound_order),
+    ];
+    let turns = Turns {
+        rounds: 3,
+        calls: 1,
+    };
+    for (maker, call) in makers {
+        for (_, times) in medians(&[arguments], implementations, call, turns) {
+            print!("{maker}, {name}:");
+            print_times(implementations, &times);
+            println!();
         }
     }
 }

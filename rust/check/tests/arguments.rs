@@ -1,5 +1,6 @@
-//! The refusals of the arguments of Envelope, Simulate and Search, 11 to 16: at their edges, in their
-//! order, and after those of the file. A refusal leaves everything that was lent as it was.
+//! The refusals of the arguments of Envelope, Simulate, Search and the two makers of a list of inputs, 11 to 16 and
+//! 19: at their edges, in their order, and after those of the file. A refusal leaves everything that was lent as it was.
+//! The edges of 19 are in `orders.rs`.
 
 use std::fmt::Debug;
 
@@ -15,6 +16,8 @@ use zimgurav::{
 const ENVELOPE: Operation<Currents> = Arguments::envelope;
 const SIMULATE: Operation<Currents> = Arguments::simulate;
 const SEARCH: Operation<Found> = Arguments::search;
+const CONE_ORDER: Operation<u64> = Arguments::cone_order;
+const BOUND_ORDER: Operation<u64> = Arguments::bound_order;
 
 #[track_caller]
 fn accepted<Answer: Debug>(call: Operation<Answer>, arguments: &Arguments) {
@@ -52,6 +55,11 @@ fn refused<Answer: Debug + PartialEq>(
             lent.store == arguments.store,
             "{name} changed the case store"
         );
+        assert!(
+            lent.order == arguments.order,
+            "{name} changed the list of inputs"
+        );
+        assert!(lent.made == arguments.made, "{name} wrote a list");
     }
 }
 
@@ -88,6 +96,7 @@ mod edges {
             };
             accepted(ENVELOPE, &arguments);
             accepted(SEARCH, &arguments);
+            accepted(BOUND_ORDER, &arguments);
         }
         for hop_limit in wide(10).chain([0, MOST_HOPS + 1, 18, 256, 266, u64::MAX]) {
             let arguments = Arguments {
@@ -96,8 +105,10 @@ mod edges {
             };
             refused(ENVELOPE, &arguments, 11, 0);
             refused(SEARCH, &arguments, 11, 0);
-            // Simulate has no hop limit.
+            refused(BOUND_ORDER, &arguments, 11, 0);
+            // Simulate and Cone order have no hop limit.
             accepted(SIMULATE, &arguments);
+            accepted(CONE_ORDER, &arguments);
         }
     }
 
@@ -113,11 +124,15 @@ mod edges {
                 accepted(ENVELOPE, &arguments);
                 accepted(SIMULATE, &arguments);
                 accepted(SEARCH, &arguments);
+                accepted(BOUND_ORDER, &arguments);
             } else {
                 refused(ENVELOPE, &arguments, 12, 0);
                 refused(SIMULATE, &arguments, 12, 0);
                 refused(SEARCH, &arguments, 12, 0);
+                refused(BOUND_ORDER, &arguments, 12, 0);
             }
+            // Cone order has no table.
+            accepted(CONE_ORDER, &arguments);
         }
     }
 
@@ -216,6 +231,9 @@ mod edges {
                 refused(ENVELOPE, &arguments, 15, 3);
                 refused(SIMULATE, &arguments, 15, 3);
                 refused(SEARCH, &arguments, 15, 3);
+                refused(BOUND_ORDER, &arguments, 15, 3);
+                // Cone order has no work buffer.
+                accepted(CONE_ORDER, &arguments);
             }
             for length in [least, least + 1, least + 7, 2 * least, 200_000] {
                 let arguments = Arguments {
@@ -225,6 +243,7 @@ mod edges {
                 accepted(ENVELOPE, &arguments);
                 accepted(SIMULATE, &arguments);
                 accepted(SEARCH, &arguments);
+                accepted(BOUND_ORDER, &arguments);
             }
         }
     }
@@ -328,6 +347,7 @@ mod order {
     const TABLE: Fault = (12, 0, |arguments| arguments.table.truncate(15));
     const RATIO: Fault = (13, 0, |arguments| arguments.ratio = LEAST_RATIO - 1);
     const BUDGET: Fault = (14, 0, |arguments| arguments.budget = MOST_BUDGET + 1);
+    const ORDER: Fault = (19, 0, |arguments| arguments.order.push(0));
     const SHEET: Fault = (15, 1, |arguments| arguments.sheet.truncate(SHEET_WORDS - 1));
     const PATTERN: Fault = (15, 2, |arguments| {
         arguments.pattern.truncate(PATTERN_BYTES - 1)
@@ -343,7 +363,10 @@ mod order {
 
     const OF_ENVELOPE: [Fault; 4] = [HOP_LIMIT, TABLE, SHEET, WORK];
     const OF_SIMULATE: [Fault; 6] = [TABLE, SHEET, PATTERN, WORK, FIRST_BYTE, SECOND_BYTE];
-    const OF_SEARCH: [Fault; 8] = [HOP_LIMIT, TABLE, RATIO, BUDGET, SHEET, PATTERN, WORK, STORE];
+    const OF_SEARCH: [Fault; 9] = [
+        HOP_LIMIT, TABLE, RATIO, BUDGET, ORDER, SHEET, PATTERN, WORK, STORE,
+    ];
+    const OF_BOUND_ORDER: [Fault; 3] = [HOP_LIMIT, TABLE, WORK];
 
     /// The block's arguments with these faults.
     fn with(faults: &[Fault]) -> Arguments {
@@ -385,6 +408,11 @@ mod order {
     }
 
     #[test]
+    fn of_bound_order() {
+        in_order(BOUND_ORDER, &OF_BOUND_ORDER);
+    }
+
+    #[test]
     fn after_the_file_in_envelope() {
         for fault in FILE {
             in_order(ENVELOPE, &[&[fault], &OF_ENVELOPE[..]].concat());
@@ -402,6 +430,15 @@ mod order {
     fn after_the_file_in_search() {
         for fault in FILE {
             in_order(SEARCH, &[&[fault], &OF_SEARCH[..]].concat());
+        }
+    }
+
+    /// Cone order has no other check than the file's.
+    #[test]
+    fn after_the_file_in_the_makers() {
+        for fault in FILE {
+            in_order(CONE_ORDER, &[fault]);
+            in_order(BOUND_ORDER, &[&[fault], &OF_BOUND_ORDER[..]].concat());
         }
     }
 
@@ -430,18 +467,31 @@ mod order {
         late(ENVELOPE, &OF_ENVELOPE);
         late(SIMULATE, &OF_SIMULATE);
         late(SEARCH, &OF_SEARCH);
+        late(CONE_ORDER, &OF_SEARCH);
+        late(BOUND_ORDER, &OF_BOUND_ORDER);
     }
 
     /// What an operation does not take is no fault there, and the pattern's bytes are one of Simulate
     /// alone.
     #[test]
     fn of_the_other_operation() {
-        for fault in [HOP_LIMIT, RATIO, BUDGET, STORE] {
+        for fault in [HOP_LIMIT, RATIO, BUDGET, ORDER, STORE] {
             accepted(SIMULATE, &with(&[fault]));
         }
-        for fault in [RATIO, BUDGET, PATTERN, STORE, FIRST_BYTE, SECOND_BYTE] {
+        for fault in [
+            RATIO,
+            BUDGET,
+            ORDER,
+            PATTERN,
+            STORE,
+            FIRST_BYTE,
+            SECOND_BYTE,
+        ] {
             accepted(ENVELOPE, &with(&[fault]));
+            accepted(BOUND_ORDER, &with(&[fault]));
         }
+        accepted(BOUND_ORDER, &with(&[SHEET]));
+        accepted(CONE_ORDER, &with(&OF_SEARCH));
         for fault in [FIRST_BYTE, SECOND_BYTE] {
             accepted(SEARCH, &with(&[fault]));
         }
@@ -505,6 +555,8 @@ mod whole_answer {
                 arguments.table.len(),
                 arguments.ratio,
                 arguments.budget,
+                arguments.order.as_ptr(),
+                arguments.order.len(),
                 arguments.sheet.as_mut_ptr(),
                 arguments.sheet.len(),
                 arguments.pattern.as_mut_ptr(),
@@ -513,6 +565,35 @@ mod whole_answer {
                 arguments.work.len(),
                 arguments.store.as_mut_ptr(),
                 arguments.store.len(),
+                &mut answer,
+            );
+        }
+        answer
+    }
+
+    fn cone_order(arguments: &mut Arguments) -> raw::Answer {
+        let mut answer = [u64::MAX; ANSWER_NUMBERS];
+        let file = &arguments.file;
+        // SAFETY: each pointer is good for its length, and no two buffers overlap.
+        unsafe {
+            raw::zimgurav_cone_order(file.as_ptr(), file.len(), &mut arguments.made, &mut answer);
+        }
+        answer
+    }
+
+    fn bound_order(arguments: &mut Arguments) -> raw::Answer {
+        let mut answer = [u64::MAX; ANSWER_NUMBERS];
+        // SAFETY: each pointer is good for its length, and no two buffers overlap.
+        unsafe {
+            raw::zimgurav_bound_order(
+                arguments.file.as_ptr(),
+                arguments.file.len(),
+                arguments.hop_limit,
+                arguments.table.as_ptr(),
+                arguments.table.len(),
+                arguments.work.as_mut_ptr(),
+                arguments.work.len(),
+                &mut arguments.made,
                 &mut answer,
             );
         }
@@ -529,6 +610,8 @@ mod whole_answer {
         lh_and_h.pattern[..2].copy_from_slice(&[3, 1]);
         assert_eq!(simulate(&mut lh_and_h), [0, 257, 2, 0, 0, 0, 0, 0]);
         assert_eq!(simulate(&mut arguments()), [0, 0, 0, 0, 0, 0, 0, 0]);
+        assert_eq!(cone_order(&mut arguments()), [0, 2, 0, 0, 0, 0, 0, 0]);
+        assert_eq!(bound_order(&mut arguments()), [0, 2, 0, 0, 0, 0, 0, 0]);
     }
 
     /// Block S: each outcome, with its number.
@@ -584,5 +667,25 @@ mod whole_answer {
         assert_eq!(envelope(&mut file), refusal(9, 3));
         assert_eq!(simulate(&mut file), refusal(9, 3));
         assert_eq!(search(&mut file), refusal(9, 3));
+    }
+
+    #[test]
+    fn refused_lists() {
+        let mut order = arguments();
+        order.order.clear();
+        assert_eq!(search(&mut order), refusal(19, 0));
+        let mut hops = arguments();
+        hops.hop_limit = 17;
+        assert_eq!(bound_order(&mut hops), refusal(11, 0));
+        let mut table = arguments();
+        table.table.clear();
+        assert_eq!(bound_order(&mut table), refusal(12, 0));
+        let mut work = arguments();
+        work.work.clear();
+        assert_eq!(bound_order(&mut work), refusal(15, 3));
+        let mut file = arguments();
+        file.file[20 * 3 + 2] = 0;
+        assert_eq!(cone_order(&mut file), refusal(9, 3));
+        assert_eq!(bound_order(&mut file), refusal(9, 3));
     }
 }

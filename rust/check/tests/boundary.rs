@@ -49,6 +49,7 @@ fn sizes() {
         ("ROW_TICKS", zimgurav::ROW_TICKS),
         ("SHEET_WORDS", zimgurav::SHEET_WORDS),
         ("PATTERN_BYTES", zimgurav::PATTERN_BYTES),
+        ("ORDER_BYTES", zimgurav::ORDER_BYTES),
         ("CASE_BYTES", zimgurav::CASE_BYTES),
         ("ANSWER_NUMBERS", zimgurav::ANSWER_NUMBERS),
         ("STACK_BYTES", zimgurav::STACK_BYTES),
@@ -103,7 +104,7 @@ mod refusals {
     fn mean_the_same_in_c() {
         let header = header();
         let (_, mut rest) = header.split_once("enum zimgurav_refusal {").expect("enum");
-        for number in 1..=18 {
+        for number in 1..=19 {
             let meaning = refused::meaning(number).expect("a meaning");
             let (first, others) = meaning.split_at(1);
             let sentence = format!("/* {}{others}.", first.to_uppercase());
@@ -117,7 +118,7 @@ mod refusals {
         let (last, _) = rest.split_once("};").expect("the end of the enum");
         assert_eq!(last.trim(), "");
         assert_eq!(refused::meaning(0), None);
-        assert_eq!(refused::meaning(19), None);
+        assert_eq!(refused::meaning(20), None);
     }
 
     #[track_caller]
@@ -154,6 +155,10 @@ mod refusals {
             "refused 16 at net 0: an input's byte of the pattern is no excitation that the input \
              is allowed",
         );
+    }
+
+    #[test]
+    fn of_texts_and_lists_are_said() {
         says(
             refused::LINE,
             3,
@@ -166,14 +171,19 @@ mod refusals {
             "refused 18 at line 12: a line of the text uses a name that no earlier line gives, or \
              gives one that an earlier line gave",
         );
-        says(19, 0, "refused 19: no such refusal is known");
+        says(
+            refused::ORDER,
+            0,
+            "refused 19: the list of inputs to split does not name each input exactly once",
+        );
+        says(20, 0, "refused 20: no such refusal is known");
     }
 
     /// Each name stands for what the library refuses with its number.
     #[test]
     fn have_their_numbers() {
         type Fault = fn(&mut Arguments);
-        let faults: [(u64, Fault); 18] = [
+        let faults: [(u64, Fault); 19] = [
             (refused::LENGTH, |lent| lent.file.push(0)),
             (refused::RECORDS, |lent| lent.file.resize(20 * 1025, 0)),
             (refused::FIRST, |lent| lent.file.clear()),
@@ -192,6 +202,7 @@ mod refusals {
             (refused::PATTERN, |lent| lent.pattern[0] = 4),
             (refused::LINE, |lent| lent.text.push(b'b')),
             (refused::NAME, |lent| lent.text.extend(b"\nINPUT(a)")),
+            (refused::ORDER, |lent| lent.order[0] = 2),
         ];
         for (number, make) in faults {
             let mut lent = Arguments::new(&block_f());
@@ -259,7 +270,7 @@ mod reference {
         let calls =
             returned.filter(|word| word.starts_with("zimgurav_") && *word != "zimgurav_word");
         let calls: Vec<String> = calls.collect();
-        assert_eq!(calls.len(), 6, "{calls:?}");
+        assert_eq!(calls.len(), 8, "{calls:?}");
         for call in calls {
             assert!(page().contains(&format!("\n| `{call}` |")), "{call}");
         }
@@ -277,7 +288,7 @@ mod reference {
                 refusals += 1;
             }
         }
-        assert_eq!(refusals, 18);
+        assert_eq!(refusals, 19);
     }
 }
 
@@ -300,8 +311,12 @@ fn calls_at_once() {
             lent.simulate(&LIBRARY),
             lent.search(&LIBRARY),
             lent.bench(&LIBRARY),
+            lent.bound_order(&LIBRARY),
         );
-        (answers, lent.sheet, lent.pattern, lent.store, lent.records)
+        let made = lent.made;
+        let cone_order = (lent.cone_order(&LIBRARY), lent.made);
+        let written = (lent.sheet, lent.pattern, lent.store, lent.records, made);
+        (answers, cone_order, written)
     };
     let alone: Vec<_> = calls.iter().map(all).collect();
     thread::scope(|scope| {

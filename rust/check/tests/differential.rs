@@ -143,7 +143,7 @@ fn compare<Answer: Copy + Debug + PartialEq>(
 }
 
 /// Counts the accepted calls and the refusals by their numbers.
-fn count<Answer>(reached: &mut [usize; 19], answer: Result<Answer, Refusal>) {
+fn count<Answer>(reached: &mut [usize; 20], answer: Result<Answer, Refusal>) {
     let number = answer.map_or_else(|refusal| refusal.number, |_| 0);
     reached[number as usize] += 1;
 }
@@ -151,7 +151,7 @@ fn count<Answer>(reached: &mut [usize; 19], answer: Result<Answer, Refusal>) {
 #[test]
 fn random_envelopes() {
     let mut random = Random::new(2);
-    let mut reached = [0; 19];
+    let mut reached = [0; 20];
     let (mut hops_mattered, mut overlaps) = (0, 0);
     for turn in 0..CALLS {
         let arguments = random_arguments(&mut random);
@@ -171,7 +171,7 @@ fn random_envelopes() {
         }
     }
     println!(
-        "accepted, then refusals 1 to 18: {reached:?}; hop limits mattered {hops_mattered} times; \
+        "accepted, then refusals 1 to 19: {reached:?}; hop limits mattered {hops_mattered} times; \
          pulses overlap in {overlaps} blocks"
     );
     for number in [0, 11, 12, 15] {
@@ -200,7 +200,7 @@ fn with_the_greatest_peaks(arguments: &Arguments) -> Arguments {
 #[test]
 fn random_simulations() {
     let mut random = Random::new(3);
-    let mut reached = [0; 19];
+    let mut reached = [0; 20];
     let (mut rounding_mattered, mut with_halves, mut overlaps) = (0, 0, 0);
     for turn in 0..CALLS {
         let arguments = random_arguments(&mut random);
@@ -219,7 +219,7 @@ fn random_simulations() {
         }
     }
     println!(
-        "accepted, then refusals 1 to 18: {reached:?}; \
+        "accepted, then refusals 1 to 19: {reached:?}; \
          a quiet tick is earlier by rounding {rounding_mattered} times; \
          {with_halves} blocks have a pulse with an exact half; \
          pulses overlap in {overlaps} blocks"
@@ -288,7 +288,7 @@ fn random_search(random: &mut Random) -> Arguments {
 #[test]
 fn random_searches() {
     let mut random = Random::new(4);
-    let mut reached = [0; 19];
+    let mut reached = [0; 20];
     let mut outcomes = [0; 3];
     let mut after_splits = [0; 3];
     let mut ended_earlier = 0;
@@ -304,10 +304,10 @@ fn random_searches() {
             ended_earlier += usize::from(0 < found.quiet && found.quiet < quiet);
         }
     }
-    println!("accepted, then refusals 1 to 18: {reached:?}");
+    println!("accepted, then refusals 1 to 19: {reached:?}");
     println!("exact, within, spent: {outcomes:?}, after a split: {after_splits:?}");
     println!("quiet ticks before the envelope's: {ended_earlier}");
-    for number in 11..=15 {
+    for number in [11, 12, 13, 14, 15, 19] {
         assert!(reached[number] >= 10, "reached too seldom: {reached:?}");
     }
     assert!(
@@ -318,6 +318,31 @@ fn random_searches() {
         ended_earlier >= 100,
         "the sheet hardly ever ended before the envelope's"
     );
+}
+
+/// The lists of both makers, for blocks of which some have no undecided input, and one or several.
+#[test]
+fn random_orders() {
+    let mut random = Random::new(6);
+    let mut reached = [[0; 20]; 2];
+    let mut moved = [0; 2];
+    for turn in 0..SEARCHES {
+        let arguments = random_search(&mut random);
+        let makers: [Operation<u64>; 2] = [Arguments::cone_order, Arguments::bound_order];
+        for (maker, call) in makers.into_iter().enumerate() {
+            let Compared { answer, after } = agreed(call, &arguments, turn);
+            count(&mut reached[maker], answer);
+            let inputs = answer.unwrap_or(0) as usize;
+            moved[maker] += usize::from(!after.made[..inputs].is_sorted());
+        }
+    }
+    println!("accepted, then refusals 1 to 19, by cones and by bounds: {reached:?}");
+    println!("lists that are not by net: {moved:?}");
+    for number in [0, 11, 12, 15] {
+        assert!(reached[1][number] >= 10, "reached too seldom: {reached:?}");
+    }
+    assert!(reached[0][0] > reached[1][0], "{reached:?}");
+    assert!(moved.iter().all(|&times| times >= 100), "{moved:?}");
 }
 
 /// How many records a text has before it is damaged: mostly few, seldom about as many as there can be.
@@ -332,7 +357,7 @@ fn records_of_a_text(random: &mut Random) -> usize {
 #[test]
 fn random_texts() {
     let mut random = Random::new(5);
-    let mut reached = [0; 19];
+    let mut reached = [0; 20];
     let mut arguments = Arguments::new(&[]);
     for turn in 0..TEXTS {
         let records = records_of_a_text(&mut random);
@@ -340,11 +365,11 @@ fn random_texts() {
         let answer = compare(Arguments::bench, &arguments, turn);
         count(&mut reached, answer);
     }
-    println!("accepted, then refusals 1 to 18: {reached:?}");
+    println!("accepted, then refusals 1 to 19: {reached:?}");
     for number in [0, 2, 3, 5, 9, 10, 15, 17, 18] {
         assert!(reached[number] >= 50, "reached too seldom: {reached:?}");
     }
-    let others = [1, 4, 6, 7, 8, 11, 12, 13, 14, 16];
+    let others = [1, 4, 6, 7, 8, 11, 12, 13, 14, 16, 19];
     assert!(others.iter().all(|&number| reached[number] == 0));
 }
 

@@ -14,7 +14,7 @@ use std::time::{Duration, Instant};
 
 use check::implementation::SECOND;
 use check::sample::{
-    damage, drawing, gate, input, peaks, switching_at, Arguments, Random, Record, Shape,
+    cone_list, damage, drawing, gate, input, peaks, switching_at, Arguments, Random, Record, Shape,
 };
 use check::second;
 use zimgurav::excitation::{H, HL, L, LH};
@@ -83,8 +83,8 @@ fn prints(file: &[u8], expected: &str) {
     assert_eq!(printed([file]), expected);
 }
 
-/// What the second implementation lets expect: one node of 16 resistances of 1, 10 hops, ratio 1,000
-/// and budget 200, as in `Arguments::new`.
+/// What the second implementation lets expect: one node of 16 resistances of 1, 10 hops, ratio 1,000,
+/// budget 200 and the inputs in the order of their cones, as in `Arguments::new`.
 fn expected(file: &[u8]) -> String {
     if file.len() > MOST_BYTES {
         return "refused 2 0\n".to_string();
@@ -92,6 +92,7 @@ fn expected(file: &[u8]) -> String {
     let mut arguments = Arguments {
         file: file.to_vec(),
         work: vec![0; 160 * 256],
+        order: cone_list(file),
         ..Arguments::new(&[])
     };
     match arguments.search(&SECOND) {

@@ -65,6 +65,7 @@ fn finds(arguments: &Arguments, expected: &Expected) {
         assert_eq!(lent.search(&implementation), Ok(found), "{name}");
         assert!(lent.file == after.file, "{name} changed the file");
         assert!(lent.table == after.table, "{name} changed the table");
+        assert!(lent.order == after.order, "{name} changed the list");
         assert_eq!(lent.pattern, after.pattern, "{name}'s pattern");
         assert!(lent.store == after.store, "{name}'s store");
         let different = (0..8192).find(|&word| lent.sheet[word] != after.sheet[word]);
@@ -399,9 +400,15 @@ mod splits {
         [&[input(15); 2], &pair(0)[..], &pair(1), more].concat()
     }
 
-    /// A search of two pairs after one split, with these cases.
+    /// A search of two pairs after one split, with the list by cones, has these cases.
     #[track_caller]
     fn first_split(block: &[Record], cases: &Cases) {
+        first_split_with(&Arguments::new(block), cases);
+    }
+
+    /// A search of two pairs after one split has these cases.
+    #[track_caller]
+    fn first_split_with(arguments: &Arguments, cases: &Cases) {
         let expected = Expected {
             outcome: Outcome::Spent,
             upper: 30,
@@ -412,7 +419,7 @@ mod splits {
             cases,
             sheet: &[0, 30],
         };
-        finds(&Arguments::new(block).with_budget(1), &expected);
+        finds(&arguments.clone().with_budget(1), &expected);
     }
 
     const AT_NET_0: [(&[u8], u64); 4] = [
@@ -428,6 +435,45 @@ mod splits {
         (&[15, 4], 30),
         (&[15, 8], 30),
     ];
+
+    /// Whichever has more gates.
+    #[test]
+    fn at_the_first_input_of_the_list() {
+        for pin in [0, 1] {
+            let more = silent(gate(BUF, &[pin]), 1);
+            let mut arguments = Arguments::new(&two_pairs(&[more]));
+            arguments.order = vec![0, 1];
+            first_split_with(&arguments, &AT_NET_0);
+            arguments.order = vec![1, 0];
+            first_split_with(&arguments, &AT_NET_1);
+        }
+    }
+
+    /// With net 1 first in the list, a case in which it is decided is split at net 0.
+    #[test]
+    fn at_the_first_undecided_input_of_the_list() {
+        let mut arguments = Arguments::new(&two_pairs(&[])).with_budget(2);
+        arguments.order = vec![1, 0];
+        let expected = Expected {
+            outcome: Outcome::Spent,
+            upper: 30,
+            lower: 20,
+            splits: 2,
+            quiet: 1,
+            pattern: &[LH, LH],
+            cases: &[
+                (&[15, 1], 20),
+                (&[15, 2], 20),
+                (&[1, 4], 10),
+                (&[15, 8], 30),
+                (&[2, 4], 10),
+                (&[4, 4], 20),
+                (&[8, 4], 20),
+            ],
+            sheet: &[0, 30],
+        };
+        finds(&arguments, &expected);
+    }
 
     #[test]
     fn at_the_lowest_net_on_a_tie() {
@@ -518,7 +564,7 @@ mod splits {
         finds(&arguments, &exact);
     }
 
-    /// Net 0 has most gates, but its set has one member.
+    /// Net 0 has most gates and is first in the list, but its set has one member.
     #[test]
     fn at_no_decided_input() {
         let mut block = two_pairs(&[silent(gate(BUF, &[0]), 1)]);

@@ -8,17 +8,26 @@ use check::implementation::{Implementation, LIBRARY, SECOND};
 use check::repository::{root, text};
 use zimgurav::Currents;
 
-/// The operations on a block file.
-const OF_FILES: &[&str] = &["read", "envelope", "simulate", "search"];
+/// The operations, in the order in which their calls are counted.
+const OPERATIONS: [&str; 7] = [
+    "read",
+    "envelope",
+    "simulate",
+    "search",
+    "coneorder",
+    "boundorder",
+    "bench",
+];
 
-/// The files of calls, the operations that each of them calls, and how often it calls each.
-const FILES: [(&str, &[&str], usize); 6] = [
-    ("arguments", OF_FILES, 70),
-    ("bench", &["bench"], 637),
-    ("capped", OF_FILES, 12),
-    ("damaged", OF_FILES, 90),
-    ("gappy", OF_FILES, 60),
-    ("small", OF_FILES, 90),
+/// The files of calls, and how often each of them calls each of the operations.
+const FILES: [(&str, [usize; 7]); 7] = [
+    ("arguments", [70, 70, 70, 70, 0, 0, 0]),
+    ("bench", [0, 0, 0, 0, 0, 0, 637]),
+    ("capped", [12, 12, 12, 12, 0, 0, 0]),
+    ("damaged", [90, 90, 90, 90, 0, 0, 0]),
+    ("gappy", [60, 60, 60, 60, 0, 0, 0]),
+    ("orders", [64, 94, 102, 138, 49, 66, 187]),
+    ("small", [90, 90, 90, 90, 0, 0, 0]),
 ];
 
 /// The right answers to the calls of a file, each on the line that its call is on.
@@ -53,21 +62,21 @@ fn calls_of(operation: &str, file: &Stored) -> usize {
     operations.filter(|each| *each == Some(operation)).count()
 }
 
-/// Each call is of one of the file's operations, and has an answer.
+/// Each call is of one of the operations, and has an answer.
 #[test]
 fn no_line_is_left_out() {
-    for (file, (name, operations, times)) in STORED.iter().zip(FILES) {
-        let mut counts = operations.iter().map(|each| calls_of(each, file));
-        assert!(counts.all(|count| count == times), "operations of {name}");
+    for (file, (name, calls)) in STORED.iter().zip(FILES) {
+        let counts = OPERATIONS.map(|operation| calls_of(operation, file));
+        assert_eq!(counts, calls, "operations of {name}");
         let lines = [file.text, &right_answers(file)].map(|text| text.lines().count());
-        assert_eq!(lines, [operations.len() * times; 2], "lines of {name}");
+        assert_eq!(lines, [calls.iter().sum(); 2], "lines of {name}");
     }
-    assert_eq!(calls::lines().count(), 1_925);
+    assert_eq!(calls::lines().count(), 2_625);
 }
 
 #[test]
 fn no_file_is_left_out() {
-    assert_eq!(STORED.map(|file| file.name), FILES.map(|(name, ..)| name));
+    assert_eq!(STORED.map(|file| file.name), FILES.map(|(name, _)| name));
     for part in ["calls", "answers"] {
         let folder = root().join("rust/calls/stored").join(part);
         let entries = fs::read_dir(folder).expect("a folder of stored lines");
@@ -75,7 +84,7 @@ fn no_file_is_left_out() {
             .map(|entry| entry.expect("a file").file_name())
             .collect();
         names.sort();
-        let expected = FILES.map(|(name, ..)| OsString::from(format!("{name}.txt")));
+        let expected = FILES.map(|(name, _)| OsString::from(format!("{name}.txt")));
         assert_eq!(names, expected, "files of {part}");
     }
 }
@@ -112,9 +121,16 @@ const RECORDS_CLEARED: Implementation = Implementation {
     ..LIBRARY
 };
 
+/// The library, but for a Cone order that clears the list where it refuses.
+const LIST_CLEARED: Implementation = Implementation {
+    name: "list cleared",
+    cone_order: |file, order| zimgurav::cone_order(file, order).inspect_err(|_| order.fill(0)),
+    ..LIBRARY
+};
+
 #[test]
 fn a_fault_changes_the_digest() {
-    for wrong in [HIGH_DROP, RECORDS_CLEARED] {
+    for wrong in [HIGH_DROP, RECORDS_CLEARED, LIST_CLEARED] {
         assert_ne!(digest_of(&wrong), DIGEST, "{}", wrong.name);
     }
 }

@@ -1,7 +1,8 @@
 //! The calls that draw a sheet, with the buffers that they are lent.
 
 use zimgurav::{
-    refused, store_bytes, work_bytes, Currents, Found, Refusal, MOST_BUDGET, PATTERN_BYTES,
+    refused, store_bytes, work_bytes, Currents, Found, Refusal, MOST_BUDGET, ORDER_BYTES,
+    PATTERN_BYTES,
 };
 
 use crate::arguments::Arguments;
@@ -114,6 +115,9 @@ pub fn search(block: &Block, setting: &Setting) -> Result<Searched, Failure> {
     let mut words = Sheet::lent();
     let mut bytes = [0; PATTERN_BYTES];
     let mut work = vec![0; work_bytes(block.counts.nets)];
+    let mut order = [0; ORDER_BYTES];
+    let inputs = zimgurav::cone_order(&block.file, &mut order);
+    let inputs = inputs.map_err(|refusal| setting.refused(block, refusal))?;
     // A budget above the most is refused before anyone looks at the store.
     let mut store = vec![0; store_bytes(setting.budget.min(MOST_BUDGET))];
     let found = progress::watched("searching", || {
@@ -123,6 +127,7 @@ pub fn search(block: &Block, setting: &Setting) -> Result<Searched, Failure> {
             &setting.table.resistances,
             setting.ratio,
             setting.budget,
+            &order[..inputs as usize],
             &mut words,
             &mut bytes,
             &mut work,

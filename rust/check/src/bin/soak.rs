@@ -94,12 +94,13 @@ fn report(seed: u64, difference: &Difference) {
 /// The arguments beside file and text. What the buffers hold follows from seed and number.
 fn described(arguments: &Arguments) -> String {
     format!(
-        "hop limit {}\nratio {}\nbudget {}\ntable {:?}\npattern {:?}\nsheet {} words\n\
+        "hop limit {}\nratio {}\nbudget {}\ntable {:?}\nlist of inputs {:?}\npattern {:?}\nsheet {} words\n\
          work buffer {} bytes\ncase store {} bytes\nlist {:?}\nrecord buffer {} bytes\n",
         arguments.hop_limit,
         arguments.ratio,
         arguments.budget,
         arguments.table,
+        arguments.order,
         arguments.pattern,
         arguments.sheet.len(),
         arguments.work.len(),

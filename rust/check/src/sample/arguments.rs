@@ -1,15 +1,17 @@
 //! The arguments of the operations.
 
+use super::order::{cone_list, random_list};
 use super::{plain_list, spread_text, Line, Random, Record};
 use zimgurav::kind::INPUT;
 use zimgurav::{
-    store_bytes, work_bytes, Word, BLOCK_BYTES, CONTACTS, MOST_NODES, PATTERN_BYTES, SHEET_WORDS,
+    store_bytes, work_bytes, Word, BLOCK_BYTES, CONTACTS, MOST_NODES, ORDER_BYTES, PATTERN_BYTES,
+    SHEET_WORDS,
 };
 
 /// What a word of the sheet holds before a call.
 const UNUSED_WORD: Word = 0xeeee_eeee_eeee_eeee;
 
-/// What a byte of the work buffer, of the case store and of the record buffer holds before a call.
+/// What a byte of the work buffer, of the case store, of a list to be made and of the record buffer holds before a call.
 const UNUSED_BYTE: u8 = 0xee;
 
 /// Everything that the operations take and are lent.
@@ -20,10 +22,14 @@ pub struct Arguments {
     pub table: Vec<u16>,
     pub ratio: u64,
     pub budget: u64,
+    /// The list of inputs that Search reads.
+    pub order: Vec<u8>,
     pub sheet: Vec<Word>,
     pub pattern: Vec<u8>,
     pub work: Vec<u8>,
     pub store: Vec<u8>,
+    /// The bytes to which the makers write a list of inputs.
+    pub made: [u8; ORDER_BYTES],
     pub text: Vec<u8>,
     pub list: Vec<u8>,
     pub records: Vec<u8>,
@@ -31,15 +37,17 @@ pub struct Arguments {
 
 impl Arguments {
     /// Accepted arguments for a valid block: 10 hops, one node of resistances of 1, ratio 1,000,
-    /// budget 200, at each input the first allowed of l, h, hl, lh, a text of one input, the plain
-    /// list, and buffers as short as they may be.
+    /// budget 200, the inputs in the order of their cones, at each input the first allowed of l, h,
+    /// hl, lh, a text of one input, the plain list, and buffers as short as they may be.
     pub fn new(block: &[Record]) -> Self {
         let mut pattern = vec![0; PATTERN_BYTES];
         for (byte, input) in pattern.iter_mut().zip(inputs(block)) {
             *byte = allowed(input)[0];
         }
+        let file = block.concat();
         Arguments {
-            file: block.concat(),
+            order: cone_list(&file),
+            file,
             hop_limit: 10,
             table: vec![1; CONTACTS],
             ratio: 1_000,
@@ -48,6 +56,7 @@ impl Arguments {
             pattern,
             work: vec![UNUSED_BYTE; work_bytes(block.len() as u64)],
             store: vec![UNUSED_BYTE; store_bytes(200)],
+            made: [UNUSED_BYTE; ORDER_BYTES],
             text: b"INPUT(a)".to_vec(),
             list: plain_list(),
             records: vec![UNUSED_BYTE; BLOCK_BYTES],
@@ -74,8 +83,8 @@ impl Arguments {
     }
 
     /// Random accepted arguments for a valid block, with at most this budget, which is at least 7.
-    /// The buffers hold noise, as do the pattern's bytes past the inputs; the work buffer and the
-    /// case store may be longer than they have to be.
+    /// The inputs are listed in any order. The buffers hold noise, as do the pattern's bytes past the
+    /// inputs; the work buffer and the case store may be longer than they have to be.
     pub fn random_up_to(budget: usize, random: &mut Random, block: &[Record]) -> Self {
         let mut arguments = Arguments::new(block);
         let any = 1 + random.below(16);
@@ -96,6 +105,8 @@ impl Arguments {
             buffer.fill_with(|| random.byte(0, 255));
         }
         arguments.sheet.fill_with(|| random.bits());
+        arguments.made.fill_with(|| random.byte(0, 255));
+        arguments.order = random_list(random, &arguments);
         arguments
     }
 

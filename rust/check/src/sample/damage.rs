@@ -1,6 +1,6 @@
 //! Damage to block files and to the other arguments of a call.
 
-use super::{Arguments, Random};
+use super::{spoil_list, Arguments, Random};
 use zimgurav::kind::INPUT;
 use zimgurav::{store_bytes, PATTERN_BYTES, RECORD_BYTES, SHEET_WORDS};
 
@@ -34,7 +34,7 @@ pub fn damage(random: &mut Random, file: &mut Vec<u8>) {
 
 /// Makes a call fail, mostly, in one of the ways that the arguments can be wrong.
 pub fn spoil(random: &mut Random, arguments: &mut Arguments) {
-    match random.below(11) {
+    match random.below(13) {
         0 => damage(random, &mut arguments.file),
         1 => arguments.hop_limit = random.pick(&[0, 17, 1 << 32, u64::MAX]),
         2 => arguments.table.truncate(random.pick(&[0, 1, 15, 17, 255])),
@@ -55,6 +55,7 @@ pub fn spoil(random: &mut Random, arguments: &mut Arguments) {
             let least = store_bytes(arguments.budget.min(60));
             arguments.store.truncate(random.pick(&[0, 71, least - 1]));
         }
+        9 | 10 => spoil_list(random, &mut arguments.order),
         _ => {
             let net = random.pick(&[0, 1, 5, 63]);
             if let Some(byte) = arguments.pattern.get_mut(net) {

@@ -6,6 +6,7 @@ mod block;
 mod damage;
 mod names;
 mod netlist;
+mod order;
 mod random;
 mod text;
 mod text_damage;
@@ -18,6 +19,7 @@ pub use block::{
 pub use damage::{damage, noise, spoil};
 pub use names::names;
 pub use netlist::{lines, pins, plain_list, Netlist};
+pub use order::{bound_list, cone_list, shuffled, spoil_list};
 pub use random::Random;
 pub use text::{plain_text, spread_text, Line, BLANKS, KIND_WORDS};
 pub use text_damage::lend_random_text;

@@ -1,5 +1,5 @@
 //! The checks of the arguments other than the file: refusals 11 to 16 of document
-//! 01. They come after Read's.
+//! 01, and 19 of the request for a list of inputs. They come after Read's.
 
 use super::block::Record;
 use super::current::SHEET_WORDS;
@@ -34,6 +34,15 @@ pub fn check_ratio(ratio: u64) -> Result<(), Refusal> {
 /// Refusal 14: The budget exceeds 10,000.
 pub fn check_budget(budget: u64) -> Result<(), Refusal> {
     refuse_if(budget > 10_000, 14, 0)
+}
+
+/// Refusal 19, after 14 and before every 15: the list is not each input's net exactly
+/// once. One whose length is not the number of inputs is not either.
+pub fn check_order(order: &[u8], counts: Counts) -> Result<(), Refusal> {
+    let mut nets = order.to_vec();
+    nets.sort();
+    let each_once = nets.into_iter().map(u64::from).eq(0..counts.inputs);
+    refuse_if(!each_once, 19, 0)
 }
 
 /// Refusal 15, place 1: the sheet is not exactly 8,192 words.

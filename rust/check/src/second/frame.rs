@@ -20,15 +20,15 @@ impl Frame {
         }
     }
 
-    /// The undecided inputs: those with a set of more than one member.
-    pub fn undecided(&self) -> impl Iterator<Item = usize> + '_ {
-        let inputs = 0..self.sets.len();
-        inputs.filter(|&input| self.sets[input].members().count() > 1)
+    /// Whether an input is undecided: its set has more than one member.
+    pub fn is_undecided(&self, input: usize) -> bool {
+        self.sets[input].members().count() > 1
     }
 
     /// Whether every input is decided.
     pub fn is_decided(&self) -> bool {
-        self.undecided().next().is_none()
+        let mut inputs = 0..self.sets.len();
+        !inputs.any(|input| self.is_undecided(input))
     }
 
     /// The probe: at each input the first allowed of lh, hl, h, l.
@@ -75,7 +75,9 @@ mod tests {
 
     #[test]
     fn undecided_inputs() {
-        assert!(frame(&[1, 3, 2, 12]).undecided().eq([1, 3]));
+        let some = frame(&[1, 3, 2, 12]);
+        let undecided = [0, 1, 2, 3].map(|input| some.is_undecided(input));
+        assert_eq!(undecided, [false, true, false, true]);
         assert!(!frame(&[1, 8, 5]).is_decided());
         assert!(frame(&[1, 2, 4, 8]).is_decided());
     }

@@ -1,18 +1,17 @@
-//! Search: takes file, hop limit, table, ratio, budget, sheet, pattern, work
-//! buffer and case store, and returns outcome, U, L, splits, cases and quiet tick, or
-//! the first refusal of document 01 that applies.
+//! Search: takes file, hop limit, table, ratio, budget, list of inputs, sheet,
+//! pattern, work buffer and case store, and returns outcome, U, L, splits, cases and
+//! quiet tick, or the first refusal that applies.
 
 use super::arguments::{
-    check_budget, check_hop_limit, check_pattern_length, check_ratio, check_sheet, check_store,
-    check_table, check_work,
+    check_budget, check_hop_limit, check_order, check_pattern_length, check_ratio, check_sheet,
+    check_store, check_table, check_work,
 };
-use super::block::{cone, records, Record};
+use super::block::records;
 use super::current::{quiet_tick, SHEET_WORDS};
-use super::envelope::write_envelope;
+use super::evaluation::Block;
 use super::excitation::Excitation;
 use super::frame::Frame;
 use super::read::read;
-use super::simulate::write_simulation;
 use zimgurav::{Found, Outcome, Refusal, Word};
 
 /// The length of a case's record: 64 bytes of input sets and 8 of its upper number.
@@ -30,6 +29,7 @@ pub fn search(
     table: &[u16],
     ratio: u64,
     budget: u64,
+    order: &[u8],
     sheet: &mut [Word],
     pattern: &mut [u8],
     work: &mut [u8],
@@ -40,6 +40,7 @@ pub fn search(
     check_table(table)?;
     check_ratio(ratio)?;
     check_budget(budget)?;
+    check_order(order, counts)?;
     check_sheet(sheet)?;
     check_pattern_length(pattern)?;
     check_work(work, counts)?;
@@ -50,43 +51,12 @@ pub fn search(
         hop_limit,
         table,
     };
-    let mut search = Search::start(&block);
+    let mut search = Search::start(&block, order);
     let outcome = search.run(ratio, budget);
     write_pattern(search.best_probe(), pattern);
     write_sheet(&block, &search.cases, sheet);
     write_store(&search.cases, store);
-    Ok(Found {
-        outcome,
-        upper: search.upper(),
-        lower: search.lower(),
-        splits: search.splits,
-        cases: search.cases.len() as u64,
-        quiet: quiet_tick(sheet),
-    })
-}
-
-/// What simulations and envelopes of the block's cases are made of.
-struct Block<'a> {
-    records: &'a [Record],
-    hop_limit: u64,
-    table: &'a [u16],
-}
-
-impl Block<'_> {
-    /// Writes the currents of a pattern into the sheet and returns their drop.
-    fn simulate(&self, pattern: &[Excitation], sheet: &mut [Word]) -> u64 {
-        write_simulation(self.records, pattern, self.table, sheet).drop
-    }
-
-    /// Writes the sheet of a frame and returns its drop: of one with every input
-    /// decided the simulation's, of another the envelope's.
-    fn evaluate(&self, frame: &Frame, sheet: &mut [Word]) -> u64 {
-        if frame.is_decided() {
-            self.simulate(&frame.probe(), sheet)
-        } else {
-            write_envelope(self.records, frame, self.hop_limit, self.table, sheet).drop
-        }
-    }
+    Ok(search.found(outcome, quiet_tick(sheet)))
 }
 
 /// A case: a frame inside the block's, and its upper number.
@@ -117,8 +87,8 @@ struct Probe {
 /// A search on its way.
 struct Search<'a> {
     block: &'a Block<'a>,
-    /// How many gates stand in the fan-out cone of each input.
-    cones: Vec<usize>,
+    /// The inputs in the order to be split.
+    order: &'a [u8],
     /// The cases not split, in the order of the store.
     cases: Vec<Case>,
     /// The probes of all cases made, in the order in which they were.
@@ -129,13 +99,11 @@ struct Search<'a> {
 
 impl<'a> Search<'a> {
     /// The first case is the whole frame.
-    fn start(block: &'a Block<'a>) -> Search<'a> {
+    fn start(block: &'a Block<'a>, order: &'a [u8]) -> Search<'a> {
         let frame = Frame::of_block(block.records);
-        let inputs = 0..frame.sets.len();
-        let cones = inputs.map(|input| cone(input, block.records));
         let mut search = Search {
             block,
-            cones: cones.collect(),
+            order,
             cases: Vec::new(),
             probes: Vec::new(),
             splits: 0,
@@ -146,18 +114,14 @@ impl<'a> Search<'a> {
         search
     }
 
-    /// Makes a case. Each case made simulates its probe. Its upper number is never
-    /// above its parent's.
+    /// Makes a case. Each case made simulates its probe.
     fn make_case(&mut self, frame: Frame, upper_of_parent: u64) -> Case {
         let mut sheet = vec![0; SHEET_WORDS];
         let pattern = frame.probe();
         let drop = self.block.simulate(&pattern, &mut sheet);
         self.probes.push(Probe { pattern, drop });
-        let upper = self.block.evaluate(&frame, &mut sheet);
-        Case {
-            frame,
-            upper: upper.min(upper_of_parent),
-        }
+        let upper = self.block.upper(&frame, upper_of_parent);
+        Case { frame, upper }
     }
 
     /// Splits cases until there is an outcome.
@@ -182,6 +146,18 @@ impl<'a> Search<'a> {
             Some(Outcome::Spent)
         } else {
             None
+        }
+    }
+
+    /// The answer: outcome, U, L, splits, cases and quiet tick.
+    fn found(&self, outcome: Outcome, quiet: u64) -> Found {
+        Found {
+            outcome,
+            upper: self.upper(),
+            lower: self.lower(),
+            splits: self.splits,
+            cases: self.cases.len() as u64,
+            quiet,
         }
     }
 
@@ -224,16 +200,11 @@ impl<'a> Search<'a> {
         self.splits += 1;
     }
 
-    /// The undecided input with most gates in its fan-out cone, lowest net on a tie.
+    /// The search splits a case at its first undecided input in the list's order.
     fn input_to_split(&self, frame: &Frame) -> usize {
-        let mut undecided = frame.undecided();
-        let mut most = undecided.next().expect("a case to split is undecided");
-        for input in undecided {
-            if self.cones[input] > self.cones[most] {
-                most = input;
-            }
-        }
-        most
+        let mut inputs = self.order.iter().copied().map(usize::from);
+        let first = inputs.find(|&input| frame.is_undecided(input));
+        first.expect("a case to split is undecided")
     }
 }
 

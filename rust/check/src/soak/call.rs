@@ -1,4 +1,5 @@
-//! Random calls, each short enough for the second implementation.
+//! Random calls, each short enough for the second implementation. What takes longest is the list by bounds of a full
+//! block with 64 undecided inputs: some seconds, but seldom.
 
 use crate::sample::{
     block_of_sums, block_with_a_cap, block_with_gaps, damage, lend_random_text, lower_peaks, noise,

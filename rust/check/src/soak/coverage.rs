@@ -8,10 +8,18 @@ use zimgurav::kind::INPUT;
 use zimgurav::{Counts, Found, Outcome, Refusal, Word, CONTACTS, RECORD_BYTES};
 
 /// The operations, in the order in which their answers are counted.
-pub const OPERATIONS: [&str; 5] = ["Read", "Envelope", "Simulate", "Search", "Bench"];
+pub const OPERATIONS: [&str; 7] = [
+    "Read",
+    "Envelope",
+    "Simulate",
+    "Search",
+    "Bench",
+    "Cone order",
+    "Bound order",
+];
 
 /// The accepted calls of an operation, then its refusals by number.
-type Answers = [u64; 19];
+type Answers = [u64; 20];
 
 /// The least numbers of records of the size classes, and the classes' names.
 const SIZES: [(usize, &str); 7] = [
@@ -35,6 +43,18 @@ const INPUTS: [(usize, &str); 5] = [
 
 /// The least numbers of bus nodes of the classes, and the classes' names.
 const NODES: [(usize, &str); 4] = [(1, "1"), (2, "2 to 8"), (9, "9 to 15"), (16, "16")];
+
+/// The least numbers of undecided inputs of the classes, and the classes' names.
+const UNDECIDED: [(usize, &str); 5] = [
+    (0, "0"),
+    (1, "1"),
+    (2, "2"),
+    (3, "3 to 16"),
+    (17, "17 to 64"),
+];
+
+/// What a list may be, by whether it is the one of the cones and whether it is the one of the bounds.
+const LISTS: [&str; 4] = ["neither", "by cones", "by bounds", "by both"];
 
 /// A sum of numbers and the greatest of them.
 #[derive(Default)]
@@ -69,7 +89,7 @@ pub struct Coverage {
     /// Cases, in the stores at the end, whose upper number is their parent's and not their own.
     pub capped: u64,
     sizes: [u64; 7],
-    answers: [Answers; 5],
+    answers: [Answers; 7],
     inputs: [u64; 5],
     kinds: [u64; 8],
     pins: [u64; 4],
@@ -89,6 +109,11 @@ pub struct Coverage {
     outcomes: [[u64; 2]; 3],
     splits: Total,
     cases: Total,
+    /// Lists of accepted searches.
+    lists: [u64; 4],
+    /// Undecided inputs of blocks whose bounds were tried, and the blocks in which two inputs tie.
+    undecided: [u64; 5],
+    ties: u64,
     /// Records of accepted texts.
     records: Total,
 }
@@ -151,6 +176,21 @@ impl Coverage {
         self.cases.add(found.cases);
     }
 
+    /// Counts the list of an accepted search: whether it is the one of the cones and whether it is the
+    /// one of the bounds.
+    pub fn count_list(&mut self, [by_cones, by_bounds]: [bool; 2]) {
+        self.lists[usize::from(by_cones) + 2 * usize::from(by_bounds)] += 1;
+    }
+
+    /// Counts a block whose bounds were tried: by its undecided inputs, and whether two of them tie.
+    pub fn count_tried(&mut self, call: &Arguments, tie: bool) {
+        let (records, _) = call.file.as_chunks::<RECORD_BYTES>();
+        let inputs = records.iter().take_while(|record| record[0] == INPUT);
+        let undecided = inputs.filter(|input| input[18].count_ones() > 1).count();
+        count_in(&UNDECIDED, &mut self.undecided, undecided);
+        self.ties += u64::from(tie);
+    }
+
     /// Counts an accepted text of so many records.
     pub fn count_text(&mut self, records: u64) {
         self.records.add(records);
@@ -185,13 +225,13 @@ fn write_sums(f: &mut fmt::Formatter, coverage: &Coverage) -> fmt::Result {
 }
 
 /// A line for each operation: the accepted calls, then the refusals by number.
-fn write_answers(f: &mut fmt::Formatter, answers: &[Answers; 5]) -> fmt::Result {
-    write!(f, "answers   accepted")?;
-    for number in 1..=18 {
+fn write_answers(f: &mut fmt::Formatter, answers: &[Answers; 7]) -> fmt::Result {
+    write!(f, "answers       accepted")?;
+    for number in 1..=19 {
         write!(f, "{number:>6}")?;
     }
     for (operation, counts) in OPERATIONS.iter().zip(answers) {
-        write!(f, "\n  {operation:<8}{:>8}", counts[0])?;
+        write!(f, "\n  {operation:<12}{:>8}", counts[0])?;
         for count in &counts[1..] {
             write!(f, "{count:>6}")?;
         }
@@ -225,6 +265,10 @@ impl fmt::Display for Coverage {
         writeln!(f, "splits    {}", self.splits)?;
         writeln!(f, "cases     {}; {} capped", self.cases, self.capped)?;
         writeln!(f, "patterns  {} held against searches", self.patterns)?;
+        writeln!(f, "lists     {}", named(LISTS, &self.lists))?;
+        writeln!(f, "undecided {}", classes(&UNDECIDED, &self.undecided))?;
+        let (ties, tried) = (self.ties, self.undecided.iter().sum::<u64>());
+        writeln!(f, "ties      of bounds in {ties} of {tried} blocks")?;
         write!(f, "texts     records {}", self.records)
     }
 }
@@ -232,6 +276,7 @@ impl fmt::Display for Coverage {
 #[cfg(test)]
 mod tests {
     use super::*;
+    use crate::sample::input;
 
     #[test]
     fn sheets_with_a_word_above_32_bits() {
@@ -242,6 +287,24 @@ mod tests {
         assert_eq!((coverage.wide, coverage.sheets), (1, 2));
         let lines = coverage.to_string();
         assert!(lines.contains("\nwords     above 32 bits in 1 of 2 sheets\n"));
+    }
+
+    #[test]
+    fn lists_undecided_inputs_and_ties() {
+        let mut coverage = Coverage::default();
+        for is_list in [[true, true], [true, false], [true, false], [false, false]] {
+            coverage.count_list(is_list);
+        }
+        for (sets, tie) in [(&[1, 2][..], false), (&[3, 8, 15], true), (&[15], false)] {
+            let inputs: Vec<_> = sets.iter().map(|&set| input(set)).collect();
+            coverage.count_tried(&Arguments::new(&inputs), tie);
+        }
+        let lines = coverage.to_string();
+        let lists = "\nlists     neither: 1, by cones: 2, by bounds: 0, by both: 1\n";
+        assert!(lines.contains(lists), "{lines}");
+        let undecided = "\nundecided 0: 1, 1: 1, 2: 1, 3 to 16: 0, 17 to 64: 0\n";
+        assert!(lines.contains(undecided), "{lines}");
+        assert!(lines.contains("\nties      of bounds in 1 of 3 blocks\n"));
     }
 
     #[test]

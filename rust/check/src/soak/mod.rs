@@ -9,9 +9,9 @@ use std::ops::Range;
 use std::panic::{catch_unwind, AssertUnwindSafe};
 use std::time::{Duration, Instant};
 
-use crate::agreement::Searched;
+use crate::agreement::{is_a_list, Searched};
 use crate::comparison::compare;
-use crate::implementation::Implementation;
+use crate::implementation::{Implementation, Operation};
 use crate::sample::{allowed, Arguments, Random};
 use crate::second;
 pub use coverage::Coverage;
@@ -84,8 +84,8 @@ fn of_operation(operation: usize) -> impl Fn(String) -> String {
     move |seen| format!("{}: {seen}", OPERATIONS[operation])
 }
 
-/// Makes all calls in both implementations, holds simulations against an accepted search, and reads the records
-/// of an accepted text.
+/// Makes all calls in both implementations, holds simulations against an accepted search, looks at the lists that
+/// are made, and reads the records of an accepted text.
 fn compare_calls(
     pair: &[Implementation; 2],
     arguments: &Arguments,
@@ -98,6 +98,7 @@ fn compare_calls(
 
     compare_envelopes(pair, arguments, read.answer, coverage).map_err(of_operation(1))?;
     compare_simulations(pair, arguments, coverage).map_err(of_operation(2))?;
+    let lists = compare_makers(pair, arguments, coverage)?;
 
     let search = compare(pair, Arguments::search, arguments).map_err(of_operation(3))?;
     coverage.count_answer(3, &search.answer);
@@ -105,6 +106,7 @@ fn compare_calls(
         let lent = search.after;
         coverage.count_search(&found);
         coverage.count_sheet(&lent.sheet);
+        coverage.count_list(lists.map(|list| list.as_ref() == Some(&lent.order)));
         hold_against_simulations(&pair[0], &Searched { lent, found }, random, coverage)
             .map_err(|seen| format!("Search against Simulate: {seen}"))?;
     }
@@ -152,6 +154,42 @@ fn compare_simulations(
         coverage.count_sheet(&simulate.after.sheet);
     }
     Ok(())
+}
+
+/// Makes the list by cones and the one by bounds in both implementations, and counts what the bounds were like.
+/// Returns the lists of accepted calls.
+fn compare_makers(
+    pair: &[Implementation; 2],
+    arguments: &Arguments,
+    coverage: &mut Coverage,
+) -> Result<[Option<Vec<u8>>; 2], String> {
+    let by_cones = compare_lists(pair, Arguments::cone_order, 5, arguments, coverage)?;
+    let by_bounds = compare_lists(pair, Arguments::bound_order, 6, arguments, coverage)?;
+    if by_bounds.is_some() {
+        let (file, hop_limit) = (&arguments.file, arguments.hop_limit);
+        let tie = second::bounds_tie(file, hop_limit, &arguments.table);
+        coverage.count_tried(arguments, tie);
+    }
+    Ok([by_cones, by_bounds])
+}
+
+/// Makes a list of inputs in both implementations. Returns the list that an accepted call made, which has each
+/// input once.
+fn compare_lists(
+    pair: &[Implementation; 2],
+    maker: Operation<u64>,
+    operation: usize,
+    arguments: &Arguments,
+    coverage: &mut Coverage,
+) -> Result<Option<Vec<u8>>, String> {
+    let made = compare(pair, maker, arguments).map_err(of_operation(operation))?;
+    coverage.count_answer(operation, &made.answer);
+    let Ok(inputs) = made.answer else {
+        return Ok(None);
+    };
+    is_a_list(&made.after.made, inputs)
+        .map_err(|seen| format!("{} by itself: {seen}", OPERATIONS[operation]))?;
+    Ok(Some(made.after.made[..inputs as usize].to_vec()))
 }
 
 /// The records that an accepted text left are a block of as many nets.
@@ -220,6 +258,11 @@ mod tests {
             (faults::STORE_CLEARED, "Search: "),
             (faults::HIGH_LOWER, "Search: "),
             (faults::LATE_SEARCH, "Search: "),
+            (faults::LIST_IGNORED, "Search: "),
+            (faults::LIST_BY_NET, "Cone order: "),
+            (faults::LIST_CLEARED, "Cone order: "),
+            (faults::INPUT_DOUBLED, "Bound order: "),
+            (faults::LIST_TOO_SHORT, "Bound order: "),
             (faults::HIGH_COUNT, "Bench: "),
             (faults::RECORDS_CLEARED, "Bench: "),
         ];
@@ -232,7 +275,7 @@ mod tests {
         }
     }
 
-    /// Two implementations that are wrong in the same way agree, but not with the simulations or with Read.
+    /// Two implementations that are wrong in the same way agree, but not with the simulations, with Read or with themselves.
     #[test]
     fn finds_a_common_fault() {
         for wrong in [
@@ -247,5 +290,10 @@ mod tests {
         let (_, found) = soak(&[faults::HIGH_COUNT; 2], 1, 0..60, HOUR);
         let seen = found.expect("a difference").seen;
         assert!(seen.starts_with("Bench against Read: "), "{seen}");
+        for wrong in [faults::INPUT_DOUBLED, faults::LIST_TOO_SHORT] {
+            let (_, found) = soak(&[wrong; 2], 1, 0..60, HOUR);
+            let seen = found.expect(wrong.name).seen;
+            assert!(seen.starts_with("Bound order by itself: "), "{seen}");
+        }
     }
 }

@@ -4,8 +4,8 @@ use std::collections::BTreeMap;
 use std::{fs, iter};
 
 use zimgurav::{
-    store_bytes, work_bytes, Word, BLOCK_BYTES, CONTACTS, PATTERN_BYTES, RECORD_BYTES, ROW_TICKS,
-    SHEET_WORDS,
+    store_bytes, work_bytes, Word, BLOCK_BYTES, CONTACTS, ORDER_BYTES, PATTERN_BYTES, RECORD_BYTES,
+    ROW_TICKS, SHEET_WORDS,
 };
 
 use crate::run::{file, lone_input, printed, scratch};
@@ -21,12 +21,15 @@ fn searched() -> (Vec<Word>, [u8; PATTERN_BYTES], Vec<Word>) {
     let nets = zimgurav::read(&block).expect("a block").nets;
     let (mut ceiling, mut simulated) = (vec![0; SHEET_WORDS], vec![0; SHEET_WORDS]);
     let (mut pattern, mut work) = ([0; PATTERN_BYTES], vec![0; work_bytes(nets)]);
+    let mut order = [0; ORDER_BYTES];
+    let inputs = zimgurav::cone_order(&block, &mut order).expect("a list");
     zimgurav::search(
         &block,
         10,
         &[1; CONTACTS],
         1_000,
         BUDGET,
+        &order[..inputs as usize],
         &mut ceiling,
         &mut pattern,
         &mut work,

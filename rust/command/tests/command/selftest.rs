@@ -7,7 +7,7 @@ use crate::run::{printed, scratch, text};
 /// The line that two builds are compared by.
 #[test]
 fn prints_one_line() {
-    let line = format!("1,925 calls, digest {}\n", calls::DIGEST);
+    let line = format!("2,625 calls, digest {}\n", calls::DIGEST);
     assert_eq!(printed(&["selftest"]), line);
 }
 
