@@ -86,22 +86,42 @@ fn commands_of_the_readme() {
     }
 }
 
-/// The refusal that the reference page shows is one that the command says.
-#[test]
-fn show_a_refusal() {
+/// What the reference page shows of a refusal of a file, as the command says it of standard input.
+fn shown_refusal(name: &str) -> String {
     let page = text("docs/REFERENCE.md");
-    let (_, refusal) = page
-        .split_once("    zimgurav: block.blk: ")
-        .expect("a refusal");
+    let beginning = format!("    zimgurav: {name}: ");
+    let (_, refusal) = page.split_once(&beginning).expect("a refusal");
     let (refusal, _) = refusal.split_once("\n\n").expect("its end");
+    let refusal = refusal.replace("\n    ", "\n");
+    format!("zimgurav: standard input: {refusal}\n")
+}
+
+/// The refusals that the reference page shows are those that the command says.
+#[test]
+fn show_refusals() {
     let mut block = file("examples/block_f.blk");
     block[64] = 3;
     let ended = run_on(&block, &["read", "-"]);
-    let expected = format!(
-        "zimgurav: standard input: {}\n",
-        refusal.replace("\n    ", "\n")
-    );
-    assert_eq!(ended.error, expected);
+    assert_eq!(ended.error, shown_refusal("block.blk"));
+    let (block, cells) = ("examples/rotate8.bench", "examples/cells.txt");
+    let arguments = ["search", block, "--cells", cells, "--order", "-"];
+    let ended = run_on(b"s0 s1\ns0 d0 d1 d2 d3 d4 d5 d6 d7\n", &arguments);
+    assert_eq!(ended.error, shown_refusal("order.txt"));
+}
+
+/// The list of inputs that the reference page shows is one that a search takes.
+#[test]
+fn show_an_order() {
+    let page = text("docs/REFERENCE.md");
+    let (_, list) = page
+        .split_once("one for `examples/rotate8.bench`:\n\n")
+        .expect("a list");
+    let (list, _) = list.split_once("\n\n").expect("its end");
+    let (block, cells) = ("examples/rotate8.bench", "examples/cells.txt");
+    let arguments = ["search", block, "--cells", cells, "--order", "-"];
+    let ended = run_on(list.as_bytes(), &arguments);
+    let order = "\nsplit order: standard input (s0 s1 s2 d0 d1 d2 d3 d4 d5 d6 d7)\n";
+    assert!(ended.output.contains(order), "{ended:?}");
 }
 
 /// The reference page has every subcommand and every option of it.
@@ -124,7 +144,7 @@ fn list_the_options() {
         .map(|name| printed(&[name, "--help"]))
         .collect();
     let options: Vec<&str> = helps.iter().flat_map(|help| listed(help, "  ")).collect();
-    assert_eq!(options.len(), 35);
+    assert_eq!(options.len(), 37);
     let missing = options
         .iter()
         .find(|option| !section.contains(&format!("`{option}`")));
