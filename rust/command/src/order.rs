@@ -138,8 +138,8 @@ mod tests {
     use super::*;
     use zimgurav::{refused, store_bytes, work_bytes, CONTACTS, PATTERN_BYTES, SHEET_WORDS};
 
-    /// Nets to be named: the inputs of block F, its gates, one that it does not have, and one that no byte has room for.
-    const NETS: [usize; 6] = [0, 1, 2, 3, 4, 300];
+    /// Nets to be named: the inputs of block F, its gates, one that it does not have, and the first that no byte has room for.
+    const NETS: [usize; 6] = [0, 1, 2, 3, 4, 256];
 
     /// Whether the library takes the list.
     fn accepted(block: &Block, order: &Order) -> bool {

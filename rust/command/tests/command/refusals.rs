@@ -309,10 +309,10 @@ mod of_arguments {
                 &["line 1 names 4, and examples/block_f.blk has 4 nets"],
             ),
             (
-                "0 256",
+                "256 1",
                 &[
                     "line 1 names 256, and examples/block_f.blk has 4 nets",
-                    "no line names the input 1",
+                    "no line names the input 0",
                 ],
             ),
         ] {
