@@ -9,7 +9,7 @@ use crate::run::{command, file, printed, root, run_on, scratch, text};
 /// The documents, and how many commands each shows with what it prints.
 const DOCUMENTS: [(&str, usize); 3] = [
     ("README.md", 1),
-    ("docs/REFERENCE.md", 1),
+    ("docs/REFERENCE.md", 2),
     ("examples/README.md", 2),
 ];
 
@@ -122,6 +122,45 @@ fn show_an_order() {
     let ended = run_on(list.as_bytes(), &arguments);
     let order = "\nsplit order: standard input (s0 s1 s2 d0 d1 d2 d3 d4 d5 d6 d7)\n";
     assert!(ended.output.contains(order), "{ended:?}");
+}
+
+/// The figures that the reference page has of the two lists, where the block is one of the examples.
+#[test]
+fn show_what_a_list_is_worth() {
+    let page = text("docs/REFERENCE.md");
+    let (_, table) = page.split_once("| exact after |\n").expect("a table");
+    let (table, _) = table.split_once("\n\n").expect("its end");
+    let rows = table.lines().filter(|line| line.starts_with("| `"));
+    let rows: Vec<Vec<&str>> = rows.map(|row| row.split(" | ").collect()).collect();
+    assert_eq!(rows.len(), 6);
+    rows.iter().for_each(|row| figures_are_right(row));
+}
+
+/// A row has U after 50, 200 and 1,000 splits, and after how many the search was exact.
+#[track_caller]
+fn figures_are_right(row: &[&str]) {
+    let block = row[0].split('`').nth(1).expect("a block");
+    let block = format!("examples/{block}");
+    let cells: &[&str] = match block.ends_with(".bench") {
+        true => &["--cells", "examples/cells.txt"],
+        false => &[],
+    };
+    let order = row[1].trim_matches('`');
+    for (budget, upper) in ["50", "200", "1000"].iter().zip(&row[2..]) {
+        let arguments = ["search", &block, "--order", order, "--budget", budget];
+        let answer = printed(&[&arguments[..], cells].concat());
+        let shown = format!("\nU            {upper} nV");
+        assert!(answer.contains(&shown), "{row:?}: {answer}");
+        let exact = answer.contains("\noutcome      exact ");
+        let splits = format!("\nsplits       {}\n", row[5].trim_end_matches(" |"));
+        let ended = if *budget == "1000" {
+            row[5] != "- |"
+        } else {
+            exact
+        };
+        assert_eq!(exact, ended, "{row:?}: {answer}");
+        assert!(!exact || answer.contains(&splits), "{row:?}: {answer}");
+    }
 }
 
 /// The reference page has every subcommand and every option of it.
