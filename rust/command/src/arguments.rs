@@ -29,6 +29,8 @@ pub enum Value {
     Ohms,
     /// A file that is read, by the word that the help has for it.
     FileRead(&'static str),
+    /// One of these words, or a file that is read, by the word that the help has for all of them.
+    WordOrFileRead(&'static str, &'static [&'static str]),
     /// A file that is written, by the word that the help has for it.
     FileWritten(&'static str),
 }
@@ -41,6 +43,7 @@ impl CommandOption {
             Some(Value::Number(..)) => "N",
             Some(Value::Ohms) => "R",
             Some(Value::FileRead(word) | Value::FileWritten(word)) => word,
+            Some(Value::WordOrFileRead(word, _)) => word,
         };
         format!("{} {value}", self.name)
     }
@@ -162,11 +165,15 @@ impl Arguments {
         let file = Identity::of(path).ok()?;
         let is_same = |word: &OsStr| Identity::of(word.as_ref()).is_ok_and(|other| other == file);
         let mut operands = self.operands.iter().filter(|_| file.exists());
-        let mut options = self.options.iter().filter(|(other, _)| match other.value {
+        let is_read = |(other, given): &&(&CommandOption, OsString)| match other.value {
             Some(Value::FileWritten(_)) => other.name != option.name,
             Some(Value::FileRead(_)) => file.exists(),
+            Some(Value::WordOrFileRead(_, words)) => {
+                file.exists() && !words.iter().any(|word| given == word)
+            }
             _ => false,
-        });
+        };
+        let mut options = self.options.iter().filter(is_read);
         let streams = [
             (Identity::of_stream(io::stdin()), "standard input"),
             (Identity::of_stream(io::stdout()), "standard output"),
@@ -182,10 +189,15 @@ impl Arguments {
             .or_else(|| stream.map(|(_, name)| name.to_string()))
     }
 
+    /// The value that an option has, given or by default.
+    pub fn value_or_default(&self, option: &CommandOption) -> &OsStr {
+        let default = option.default.unwrap_or_default();
+        self.value(option.name).unwrap_or(default.as_ref())
+    }
+
     /// The number that an option has, given or by default.
     pub fn number(&self, option: &CommandOption) -> Result<u64, Failure> {
-        let default = option.default.unwrap_or_default();
-        let value = self.value(option.name).unwrap_or(default.as_ref());
+        let value = self.value_or_default(option);
         let number = value.to_str().and_then(|digits| digits.parse().ok());
         number.ok_or_else(|| {
             let (name, value) = (option.name, value.display());

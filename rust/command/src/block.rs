@@ -10,6 +10,7 @@ use crate::cells::Cells;
 use crate::failure::Failure;
 use crate::files;
 use crate::number::counted;
+use crate::output;
 use crate::record::{records, Record, KINDS};
 
 /// A block that Read accepted.
@@ -111,6 +112,29 @@ impl Block {
     pub fn input_names(&self) -> &[String] {
         let inputs = self.counts.inputs as usize;
         self.names.get(..inputs).unwrap_or_default()
+    }
+
+    /// What a net is called in a list of nets: of a bench text its name, else its number.
+    pub fn called(&self, net: usize) -> String {
+        let name = self.names.get(net).cloned();
+        name.unwrap_or_else(|| net.to_string())
+    }
+
+    /// The net that a word of a list calls. It has a number, but the block need not have so many nets.
+    pub fn net_called(&self, word: &str) -> Result<usize, String> {
+        if self.names.is_empty() {
+            let word = output::shortened(word);
+            let rule = "the nets of a block file go by their numbers";
+            return word
+                .parse()
+                .map_err(|_| format!("{word} is no net number: {rule}"));
+        }
+        let net = self.names.iter().position(|name| name == word);
+        net.ok_or_else(|| {
+            let word = output::shortened(word);
+            let rule = "the nets of a bench text go by their names, not by their numbers";
+            format!("no net has the name {word}: {rule}")
+        })
     }
 
     fn numbered(&self, net: usize) -> String {

@@ -10,6 +10,7 @@ use crate::block::Block;
 use crate::failure::Failure;
 use crate::number::counted;
 use crate::options::{BUDGET, HOP_LIMIT, RATIO};
+use crate::order::{Order, Source, BOUNDS, CONE};
 use crate::pattern::Pattern;
 use crate::progress;
 use crate::sheet::Sheet;
@@ -21,6 +22,8 @@ pub struct Setting {
     pub ratio: u64,
     pub budget: u64,
     pub table: Table,
+    /// Where the list of inputs to split comes from.
+    order: Source,
 }
 
 impl Setting {
@@ -31,6 +34,7 @@ impl Setting {
             ratio: arguments.number(&RATIO)?,
             budget: arguments.number(&BUDGET)?,
             table: Table::given(arguments)?,
+            order: Source::given(arguments),
         })
     }
 
@@ -102,6 +106,8 @@ pub fn simulate(block: &Block, setting: &Setting, pattern: &Pattern) -> Result<D
 
 /// What a search found.
 pub struct Searched {
+    /// The list of inputs that the search was lent.
+    pub order: Order,
     pub found: Found,
     pub ceiling: Sheet,
     /// The worst pattern found.
@@ -110,14 +116,29 @@ pub struct Searched {
     pub simulated: Drawn,
 }
 
+/// The list of inputs to split, from the source that the setting has.
+fn order(block: &Block, setting: &Setting, work: &mut [u8]) -> Result<Order, Failure> {
+    let mut list = [0; ORDER_BYTES];
+    let (word, inputs) = match &setting.order {
+        Source::File(path) => return Order::load(block, path),
+        Source::Cone => (CONE, zimgurav::cone_order(&block.file, &mut list)),
+        Source::Bounds => {
+            let table = &setting.table.resistances;
+            let inputs =
+                zimgurav::bound_order(&block.file, setting.hop_limit, table, work, &mut list);
+            (BOUNDS, inputs)
+        }
+    };
+    let inputs = inputs.map_err(|refusal| setting.refused(block, refusal))?;
+    Ok(Order::made(word, &list[..inputs as usize]))
+}
+
 /// Searches a block, and simulates the pattern that the search hands over.
 pub fn search(block: &Block, setting: &Setting) -> Result<Searched, Failure> {
     let mut words = Sheet::lent();
     let mut bytes = [0; PATTERN_BYTES];
     let mut work = vec![0; work_bytes(block.counts.nets)];
-    let mut order = [0; ORDER_BYTES];
-    let inputs = zimgurav::cone_order(&block.file, &mut order);
-    let inputs = inputs.map_err(|refusal| setting.refused(block, refusal))?;
+    let order = order(block, setting, &mut work)?;
     // A budget above the most is refused before anyone looks at the store.
     let mut store = vec![0; store_bytes(setting.budget.min(MOST_BUDGET))];
     let found = progress::watched("searching", || {
@@ -127,16 +148,20 @@ pub fn search(block: &Block, setting: &Setting) -> Result<Searched, Failure> {
             &setting.table.resistances,
             setting.ratio,
             setting.budget,
-            &order[..inputs as usize],
+            &order.lent,
             &mut words,
             &mut bytes,
             &mut work,
             &mut store,
         )
     });
-    let found = found.map_err(|refusal| setting.refused(block, refusal))?;
+    let found = found.map_err(|refusal| match refusal.number {
+        refused::ORDER => order.refused(block, refusal),
+        _ => setting.refused(block, refusal),
+    })?;
     let pattern = Pattern::found(block, &bytes);
     Ok(Searched {
+        order,
         ceiling: Sheet::new(words, found.quiet),
         simulated: simulate(block, setting, &pattern)?,
         pattern,

@@ -59,6 +59,28 @@ fn bytes(source: impl Read) -> io::Result<Vec<u8>> {
     Ok(bytes)
 }
 
+/// What the words of a file stand for, each with the number of its line from 1. A word that stands for nothing is told
+/// with its line.
+pub fn words<Meaning>(
+    path: &OsStr,
+    meaning: impl Fn(&str) -> Result<Meaning, String>,
+) -> Result<Vec<(usize, Meaning)>, Failure> {
+    let name = shown(path);
+    let lines = lines(&read(path)?);
+    let words = lines.iter().flat_map(|(number, line)| {
+        let words = line.split_whitespace();
+        words.map(move |word| (*number, word))
+    });
+    let meanings = words.map(|(number, word)| match meaning(word) {
+        Ok(meaning) => Ok((number, meaning)),
+        Err(message) => {
+            let message = format!("line {number}: {message}");
+            Err(Failure::file(&name, message))
+        }
+    });
+    meanings.collect()
+}
+
 /// The lines of a text, each with its number from 1, without comments, which begin at `#`; lines that say
 /// nothing else are left out. The mark that some editors put before a text is none of it.
 pub fn lines(bytes: &[u8]) -> Vec<(usize, String)> {

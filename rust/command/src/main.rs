@@ -17,6 +17,7 @@ mod interrupt;
 mod line_fault;
 mod number;
 mod options;
+mod order;
 mod output;
 mod output_file;
 mod pattern;

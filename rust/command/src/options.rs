@@ -3,6 +3,7 @@
 use zimgurav::{LEAST_RATIO, MOST_BUDGET, MOST_HOPS, MOST_RATIO};
 
 use crate::arguments::{CommandOption, Value};
+use crate::order::{BOUNDS, CONE};
 
 pub const NETS: CommandOption = CommandOption {
     name: "--nets",
@@ -65,6 +66,13 @@ pub const BUDGET: CommandOption = CommandOption {
     value: Some(Value::Number(0, MOST_BUDGET)),
     default: Some("1000"),
     meaning: "cases to split at most, 0 to 10000",
+};
+
+pub const ORDER: CommandOption = CommandOption {
+    name: "--order",
+    value: Some(Value::WordOrFileRead("ORDER", &[CONE, BOUNDS])),
+    default: Some(CONE),
+    meaning: "which input to split first: cone, bounds or a file",
 };
 
 pub const PATTERN: CommandOption = CommandOption {

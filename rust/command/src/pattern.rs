@@ -36,15 +36,10 @@ impl Pattern {
 
     /// A pattern from a file of words.
     fn load(block: &Block, path: &OsStr) -> Result<Self, Failure> {
-        let name = files::shown(path);
-        let mut bytes = Vec::new();
-        for (number, line) in files::lines(&files::read(path)?) {
-            let of_line: Result<Vec<u8>, String> = line.split_whitespace().map(byte).collect();
-            let of_line = of_line
-                .map_err(|message| Failure::file(&name, format!("line {number}: {message}")))?;
-            bytes.extend(of_line);
-        }
-        Pattern::of_all_inputs(block, bytes).map_err(|message| Failure::file(&name, message))
+        let words = files::words(path, byte)?.into_iter();
+        let bytes = words.map(|(_, byte)| byte).collect();
+        let wrong = |message| Failure::file(&files::shown(path), message);
+        Pattern::of_all_inputs(block, bytes).map_err(wrong)
     }
 
     /// A pattern has a word for each input.

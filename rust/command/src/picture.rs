@@ -14,8 +14,8 @@ pub struct Picture<'a> {
     pub title: String,
     /// What the call answered, in a line.
     pub caption: String,
-    /// The values that the call was made with.
-    pub setting: String,
+    /// The values that the call was made with, in lines.
+    pub setting: Vec<String>,
     /// The contacts that gates are at.
     pub contacts: Vec<usize>,
     /// A ceiling on the currents of every pattern.
@@ -31,7 +31,7 @@ impl<'a> Picture<'a> {
         Picture {
             title: format!("Envelope of {}", block.name),
             caption: format!("No pattern drops more than {}.", volts(ceiling.drop)),
-            setting: summary::envelope_setting(setting),
+            setting: vec![summary::envelope_setting(setting)],
             contacts: block.contacts(),
             ceiling: Some(&ceiling.sheet),
             simulated: None,
@@ -43,7 +43,7 @@ impl<'a> Picture<'a> {
         Picture {
             title: format!("Simulation of {}", block.name),
             caption: format!("The pattern drops {}.", volts(simulated.drop)),
-            setting: setting.table.words.clone(),
+            setting: vec![setting.table.words.clone()],
             contacts: block.contacts(),
             ceiling: None,
             simulated: Some(&simulated.sheet),
@@ -56,7 +56,7 @@ impl<'a> Picture<'a> {
         Picture {
             title: format!("Search of {}", block.name),
             caption: summary::bounds(&searched.found, volts),
-            setting: summary::search_setting(setting),
+            setting: summary::search_setting(block, setting, searched).into(),
             contacts: block.contacts(),
             ceiling: Some(&searched.ceiling),
             simulated: Some(&searched.simulated.sheet),

@@ -33,7 +33,9 @@ p.made { color: #555; margin-top: 2.5rem; }
 /// The page about a search of the block and its envelope.
 pub fn page(block: &Block, setting: &Setting, searched: &Searched, ceiling: &Drawn) -> String {
     let title = escaped(&format!("Supply current of {}", block.name));
-    let (size, values) = (block.size(), escaped(&summary::search_setting(setting)));
+    let size = block.size();
+    let [values, order] =
+        summary::search_setting(block, setting, searched).map(|line| escaped(&line));
     let mut pictures = [
         Picture::of_search(block, setting, searched),
         Picture::of_envelope(block, setting, ceiling),
@@ -57,7 +59,7 @@ pub fn page(block: &Block, setting: &Setting, searched: &Searched, ceiling: &Dra
     ];
     format!(
         "<!DOCTYPE html>\n<html lang=\"en\">\n<head>\n<meta charset=\"utf-8\"/>\n<title>{title}</title>\n\
-         <style>{STYLE}</style>\n</head>\n<body>\n<h1>{title}</h1>\n<p>{size}<br/>{values}</p>\n\
+         <style>{STYLE}</style>\n</head>\n<body>\n<h1>{title}</h1>\n<p>{size}<br/>{values}<br/>{order}</p>\n\
          {}<p class=\"made\">Made by zimgurav, version {} of the calls. \
          Every current and every drop is an answer of the proved library.</p>\n</body>\n</html>\n",
         sections.concat(),

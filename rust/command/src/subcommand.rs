@@ -38,6 +38,14 @@ const OF_PATTERNS: &str = "\
 PATTERN is a word for each input, l, h, hl or lh, or a file of such words, as search
 --pattern writes it. In a file # begins a comment.";
 
+const OF_ORDERS: &str = "\
+ORDER says which input is split first, and which next. cone: the one that feeds most
+gates, directly or through others. bounds: the one whose split leaves the lowest
+ceiling; each input is tried once, before the search. Else ORDER is a file that names
+each input once, by its net number or, of a bench text, by its name, with white space
+between them. In a file # begins a comment. A file that is called cone or bounds is
+given as ./cone or ./bounds. The ceilings hold with every order.";
+
 const OF_CELLS: &str = "\
 The cell list has a line for each kind of gate (AND, NAND, OR, NOR, XOR, XNOR, NOT,
 BUF): the kind, its contact (0 to 15), delay (1 to 63 ticks), rise and fall (1 to
@@ -85,9 +93,9 @@ pub const SUBCOMMANDS: [Subcommand; 7] = [
         name: "search",
         usage: "BLOCK [OPTIONS]",
         summary: "Tightens the ceiling, and gives the worst pattern that it found.",
-        about: &[OF_BLOCKS],
+        about: &[OF_BLOCKS, OF_ORDERS],
         options: &[
-            &CELLS, &HOP_LIMIT, &TABLE, &OHMS, &RATIO, &BUDGET, &PATTERN, &SVG, &CSV, &VCD,
+            &CELLS, &HOP_LIMIT, &TABLE, &OHMS, &RATIO, &BUDGET, &ORDER, &PATTERN, &SVG, &CSV, &VCD,
         ],
         run: search,
     },
@@ -95,8 +103,10 @@ pub const SUBCOMMANDS: [Subcommand; 7] = [
         name: "report",
         usage: "BLOCK -o FILE [OPTIONS]",
         summary: "Writes a page with the numbers, the pictures and the tables.",
-        about: &[OF_BLOCKS],
-        options: &[&CELLS, &HOP_LIMIT, &TABLE, &OHMS, &RATIO, &BUDGET, &PAGE],
+        about: &[OF_BLOCKS, OF_ORDERS],
+        options: &[
+            &CELLS, &HOP_LIMIT, &TABLE, &OHMS, &RATIO, &BUDGET, &ORDER, &PAGE,
+        ],
         run: report,
     },
     Subcommand {
@@ -208,9 +218,10 @@ fn search(arguments: &Arguments) -> Result<(), Failure> {
     let setting = Setting::given(arguments)?;
     let block = block(arguments, operand(arguments, "BLOCK")?)?;
     let searched = evaluation::search(&block, &setting)?;
+    let [values, order] = summary::search_setting(&block, &setting, &searched);
     print_answer(
         &block,
-        &summary::search_setting(&setting),
+        &format!("{values}\n{}", output::wrapped(&order)),
         &summary::of_search(&block, &setting, &searched),
         &[
             ("at most", &searched.ceiling),

@@ -90,15 +90,16 @@ pub fn envelope_setting(setting: &Setting) -> String {
     format!("hop limit {hop_limit}; {}", setting.table.words)
 }
 
-/// The values of a search's arguments.
-pub fn search_setting(setting: &Setting) -> String {
-    format!(
+/// The values of a search's arguments, in two lines: the list of inputs has one to itself.
+pub fn search_setting(block: &Block, setting: &Setting, searched: &Searched) -> [String; 2] {
+    let values = format!(
         "hop limit {}, ratio {}, budget {}; {}",
         counted(setting.hop_limit, "run"),
         counted(setting.ratio, "thousandth"),
         counted(setting.budget, "split"),
         setting.table.words
-    )
+    );
+    [values, searched.order.words(block)]
 }
 
 /// What an envelope answers.

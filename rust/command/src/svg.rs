@@ -49,8 +49,11 @@ const LABEL_HEIGHT: u64 = 18 * PIXEL;
 /// The height of a picture that has no rows.
 const EMPTY_HEIGHT: u64 = 110 * PIXEL;
 
-/// From the bottom of the last row to that of the picture.
-const FOOT: u64 = 74 * PIXEL;
+/// From the bottom of the last row down to the first line of the setting.
+const FOOT: u64 = 58 * PIXEL;
+
+/// From a line of the setting down to the next, and from the last one to the bottom of the picture.
+const SETTING_LINE: u64 = 16 * PIXEL;
 
 /// From the middle of a line of words down to the line that they stand on.
 const HALF_LINE: u64 = 4 * PIXEL;
@@ -116,6 +119,8 @@ struct Plot {
     /// Where the numbers of the greatest currents end.
     currents_end: u64,
     rows: u64,
+    /// How many lines the setting has.
+    setting_lines: u64,
     /// From the top of a row to the top of the next.
     pitch: u64,
 }
@@ -132,6 +137,7 @@ impl Plot {
             currents_end: MARKS_CURRENTS
                 + MARKS_LETTER * microamperes(greatest).chars().count() as u64,
             rows,
+            setting_lines: picture.setting.len() as u64,
             pitch: (640 * PIXEL / rows.max(1)).clamp(64 * PIXEL, 240 * PIXEL),
         }
     }
@@ -163,8 +169,13 @@ impl Plot {
     fn height(&self) -> u64 {
         match self.rows {
             0 => EMPTY_HEIGHT,
-            rows => self.bottom(rows - 1) + FOOT,
+            _ => self.setting_line(self.setting_lines),
         }
+    }
+
+    /// Where a line of the setting stands, by its number from 0.
+    fn setting_line(&self, line: u64) -> u64 {
+        self.bottom(self.rows - 1) + FOOT + SETTING_LINE * line
     }
 }
 
@@ -268,8 +279,11 @@ fn tick_axis(plot: &Plot, alone: bool) -> String {
 
 /// The values that the call was made with, under all else.
 fn foot(picture: &Picture, plot: &Plot) -> String {
-    let setting = shortened(&picture.setting, CAPTION_ROOM);
-    text(MARGIN, plot.height() - 16 * PIXEL, SMALL, &setting)
+    let lines = (0..).zip(&picture.setting).map(|(number, line)| {
+        let line = shortened(line, CAPTION_ROOM);
+        text(MARGIN, plot.setting_line(number), SMALL, &line)
+    });
+    lines.collect()
 }
 
 /// The rows, and above them what the numbers beside them are.
@@ -413,7 +427,7 @@ mod tests {
         Picture {
             title: "Search of a.blk".to_string(),
             caption: "U 720, L 320".to_string(),
-            setting: "one bus node".to_string(),
+            setting: vec!["one bus node".to_string()],
             contacts: contacts.to_vec(),
             ceiling,
             simulated,
@@ -520,6 +534,27 @@ mod tests {
         assert!(has_words(&svg, &["one bus node"]));
     }
 
+    /// The lines of a setting stand one below the other, above the picture's bottom, and none is broader than it.
+    #[test]
+    fn a_setting_has_lines() {
+        let ceiling = ceiling();
+        let broad = format!("split order: cone ({})", ["abcdefgh"; 64].join(" "));
+        let svg = draw(&Picture {
+            setting: vec!["one bus node".to_string(), broad.clone()],
+            ..picture(&[0], Some(&ceiling), None)
+        });
+        let line = |y: &str| {
+            let beginning = format!("<text x=\"20.0\" y=\"{y}\" {SMALL}>");
+            let line = svg.lines().find_map(|line| line.strip_prefix(&beginning));
+            line.expect("a line").replace("</text>", "")
+        };
+        assert_eq!(line("400.0"), "one bus node");
+        assert_eq!(line("416.0"), shortened(&broad, CAPTION_ROOM));
+        assert!(line("416.0").starts_with("split order: cone (abcdefgh "));
+        assert!(line("416.0").ends_with(" abcdefgh)"));
+        assert!(svg.contains("height=\"432\""));
+    }
+
     #[test]
     fn axes_have_labels() {
         let svg = drawn(&[0, 5], Some(&ceiling()), Some(&simulated()));
@@ -616,7 +651,7 @@ mod tests {
         let svg = draw(&Picture {
             title: "Search of <b> & \"c\u{1}\".blk".to_string(),
             caption: "</desc>".to_string(),
-            setting: "1 bus node of <b>".to_string(),
+            setting: vec!["1 bus node of <b>".to_string()],
             ..picture(&[0], Some(&ceiling), None)
         });
         assert_eq!(well_formed(&svg), Ok(()));

@@ -24,10 +24,7 @@ impl Table {
     pub fn given(arguments: &Arguments) -> Result<Self, Failure> {
         match (arguments.value(TABLE.name), arguments.value(OHMS.name)) {
             (Some(path), None) => Table::load(path),
-            (None, ohms) => {
-                let default = OHMS.default.unwrap_or_default();
-                Table::of_ohms(ohms.unwrap_or(default.as_ref()))
-            }
+            (None, _) => Table::of_ohms(arguments.value_or_default(&OHMS)),
             (Some(_), Some(_)) => {
                 let message = "a table is either of a file, --table, or of one node, --ohms";
                 Err(Failure::usage(message))

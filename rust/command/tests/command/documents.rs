@@ -9,7 +9,7 @@ use crate::run::{command, file, printed, root, run_on, scratch, text};
 /// The documents, and how many commands each shows with what it prints.
 const DOCUMENTS: [(&str, usize); 3] = [
     ("README.md", 1),
-    ("docs/REFERENCE.md", 1),
+    ("docs/REFERENCE.md", 2),
     ("examples/README.md", 2),
 ];
 
@@ -86,22 +86,81 @@ fn commands_of_the_readme() {
     }
 }
 
-/// The refusal that the reference page shows is one that the command says.
-#[test]
-fn show_a_refusal() {
+/// What the reference page shows of a refusal of a file, as the command says it of standard input.
+fn shown_refusal(name: &str) -> String {
     let page = text("docs/REFERENCE.md");
-    let (_, refusal) = page
-        .split_once("    zimgurav: block.blk: ")
-        .expect("a refusal");
+    let beginning = format!("    zimgurav: {name}: ");
+    let (_, refusal) = page.split_once(&beginning).expect("a refusal");
     let (refusal, _) = refusal.split_once("\n\n").expect("its end");
+    let refusal = refusal.replace("\n    ", "\n");
+    format!("zimgurav: standard input: {refusal}\n")
+}
+
+/// The refusals that the reference page shows are those that the command says.
+#[test]
+fn show_refusals() {
     let mut block = file("examples/block_f.blk");
     block[64] = 3;
     let ended = run_on(&block, &["read", "-"]);
-    let expected = format!(
-        "zimgurav: standard input: {}\n",
-        refusal.replace("\n    ", "\n")
-    );
-    assert_eq!(ended.error, expected);
+    assert_eq!(ended.error, shown_refusal("block.blk"));
+    let (block, cells) = ("examples/rotate8.bench", "examples/cells.txt");
+    let arguments = ["search", block, "--cells", cells, "--order", "-"];
+    let ended = run_on(b"s0 s1\ns0 d0 d1 d2 d3 d4 d5 d6 d7\n", &arguments);
+    assert_eq!(ended.error, shown_refusal("order.txt"));
+}
+
+/// The list of inputs that the reference page shows is one that a search takes.
+#[test]
+fn show_an_order() {
+    let page = text("docs/REFERENCE.md");
+    let (_, list) = page
+        .split_once("one for `examples/rotate8.bench`:\n\n")
+        .expect("a list");
+    let (list, _) = list.split_once("\n\n").expect("its end");
+    let (block, cells) = ("examples/rotate8.bench", "examples/cells.txt");
+    let arguments = ["search", block, "--cells", cells, "--order", "-"];
+    let ended = run_on(list.as_bytes(), &arguments);
+    let order = "\nsplit order: standard input (s0 s1 s2 d0 d1 d2 d3 d4 d5 d6 d7)\n";
+    assert!(ended.output.contains(order), "{ended:?}");
+}
+
+/// The figures that the reference page has of the two lists, where the block is one of the examples.
+#[test]
+fn show_what_a_list_is_worth() {
+    let page = text("docs/REFERENCE.md");
+    let (_, table) = page.split_once("| exact after |\n").expect("a table");
+    let (table, _) = table.split_once("\n\n").expect("its end");
+    let rows = table.lines().filter(|line| line.starts_with("| `"));
+    let rows: Vec<Vec<&str>> = rows.map(|row| row.split(" | ").collect()).collect();
+    assert_eq!(rows.len(), 6);
+    rows.iter().for_each(|row| figures_are_right(row));
+}
+
+/// A row has U after 50, 200 and 1,000 splits, and after how many the search was exact.
+#[track_caller]
+fn figures_are_right(row: &[&str]) {
+    let block = row[0].split('`').nth(1).expect("a block");
+    let block = format!("examples/{block}");
+    let cells: &[&str] = match block.ends_with(".bench") {
+        true => &["--cells", "examples/cells.txt"],
+        false => &[],
+    };
+    let order = row[1].trim_matches('`');
+    for (budget, upper) in ["50", "200", "1000"].iter().zip(&row[2..]) {
+        let arguments = ["search", &block, "--order", order, "--budget", budget];
+        let answer = printed(&[&arguments[..], cells].concat());
+        let shown = format!("\nU            {upper} nV");
+        assert!(answer.contains(&shown), "{row:?}: {answer}");
+        let exact = answer.contains("\noutcome      exact ");
+        let splits = format!("\nsplits       {}\n", row[5].trim_end_matches(" |"));
+        let ended = if *budget == "1000" {
+            row[5] != "- |"
+        } else {
+            exact
+        };
+        assert_eq!(exact, ended, "{row:?}: {answer}");
+        assert!(!exact || answer.contains(&splits), "{row:?}: {answer}");
+    }
 }
 
 /// The reference page has every subcommand and every option of it.
@@ -124,7 +183,7 @@ fn list_the_options() {
         .map(|name| printed(&[name, "--help"]))
         .collect();
     let options: Vec<&str> = helps.iter().flat_map(|help| listed(help, "  ")).collect();
-    assert_eq!(options.len(), 35);
+    assert_eq!(options.len(), 37);
     let missing = options
         .iter()
         .find(|option| !section.contains(&format!("`{option}`")));

@@ -15,30 +15,62 @@ const BLOCK: &str = "examples/adder24.blk";
 /// The command's default.
 const BUDGET: u64 = 1_000;
 
-/// The sheet, the pattern and its currents, of a search of the adder by the library itself.
+/// The sheet, the pattern and its currents, of a search of the adder by the library itself, with the defaults of the
+/// command.
 fn searched() -> (Vec<Word>, [u8; PATTERN_BYTES], Vec<Word>) {
+    let mut order = [0; ORDER_BYTES];
+    let inputs = zimgurav::cone_order(&file(BLOCK), &mut order).expect("a list");
+    searched_by(&order[..inputs as usize], BUDGET)
+}
+
+/// The same with another list and budget.
+fn searched_by(order: &[u8], budget: u64) -> (Vec<Word>, [u8; PATTERN_BYTES], Vec<Word>) {
     let block = file(BLOCK);
     let nets = zimgurav::read(&block).expect("a block").nets;
     let (mut ceiling, mut simulated) = (vec![0; SHEET_WORDS], vec![0; SHEET_WORDS]);
     let (mut pattern, mut work) = ([0; PATTERN_BYTES], vec![0; work_bytes(nets)]);
-    let mut order = [0; ORDER_BYTES];
-    let inputs = zimgurav::cone_order(&block, &mut order).expect("a list");
     zimgurav::search(
         &block,
         10,
         &[1; CONTACTS],
         1_000,
-        BUDGET,
-        &order[..inputs as usize],
+        budget,
+        order,
         &mut ceiling,
         &mut pattern,
         &mut work,
-        &mut vec![0; store_bytes(BUDGET)],
+        &mut vec![0; store_bytes(budget)],
     )
     .expect("a search");
     zimgurav::simulate(&block, &[1; CONTACTS], &mut simulated, &pattern, &mut work)
         .expect("a simulation");
     (ceiling, pattern, simulated)
+}
+
+/// The list that is shown is the one that the library makes, and a search is lent the list that is given: here the one
+/// by bounds, from its end on.
+#[test]
+fn order_is_the_one_lent() {
+    let block = file(BLOCK);
+    let nets = zimgurav::read(&block).expect("a block").nets;
+    let (mut work, mut order) = (vec![0; work_bytes(nets)], [0; ORDER_BYTES]);
+    let inputs = zimgurav::bound_order(&block, 10, &[1; CONTACTS], &mut work, &mut order);
+    let list = &mut order[..inputs.expect("a list") as usize];
+    let words = |list: &[u8]| {
+        let words: Vec<String> = list.iter().map(u8::to_string).collect();
+        words.join(" ")
+    };
+    let shown = printed(&["search", BLOCK, "--budget", "0", "--order", "bounds"]);
+    let expected = format!("\nsplit order: bounds ({})\n", words(list));
+    assert!(shown.replace("\n  ", " ").contains(&expected), "{shown}");
+    list.reverse();
+    let [path, values] = ["reverse.txt", "reverse.csv"].map(scratch);
+    fs::write(&path, words(list)).expect("written");
+    let arguments = ["search", BLOCK, "--budget", "20", "--order", &path];
+    printed(&[&arguments[..], &["--csv", &values]].concat());
+    let (ceiling, _, simulated) = searched_by(list, 20);
+    let values = fs::read_to_string(values).expect("the values");
+    assert!(sheets(&values, &["ceiling", "pattern"]) == [ceiling, simulated]);
 }
 
 /// The sheets of comma-separated values, each line a tick, each column a contact of one of the named sheets.

@@ -132,18 +132,51 @@ fn over_a_standard_stream() {
     assert_eq!(fs::read(input).expect("the block"), file(BLOCK));
 }
 
-/// A word of a pattern, or a number, is no file.
+/// An output over the list of inputs that a search is given.
+#[test]
+fn over_an_order() {
+    let folder = folder("order");
+    let [block, list] = ["a.blk", "cone"].map(|name| format!("{folder}/{name}"));
+    fs::write(&list, "1 0").expect("written");
+    let arguments = ["search", &block, "--order", &list, "--csv", &list];
+    let (written, read) = (format!("--csv {list}"), format!("--order {list}"));
+    assert_eq!(run(&arguments), one_file("search", &written, &read));
+    assert_eq!(fs::read_to_string(&list).expect("the list"), "1 0");
+}
+
+/// A word of a pattern, or of an order, or a number, is no file.
 #[test]
 fn words_that_are_no_files() {
     let folder = folder("words");
+    fs::write(format!("{folder}/bounds"), "old").expect("written");
     for arguments in [
-        &["simulate", "a.blk", "lh", "lh", "--csv", "lh"],
+        &["simulate", "a.blk", "lh", "lh", "--csv", "lh"][..],
         &["search", "a.blk", "--budget", "5", "--svg", "5"],
+        &["search", "a.blk", "--order", "cone", "--svg", "cone"],
+        &["search", "a.blk", "--order", "bounds", "--svg", "bounds"],
     ] {
         let ended = command(arguments).current_dir(&folder).output();
         assert!(ended.expect("the command starts").status.success());
     }
-    assert_eq!(names(&folder), ["5", "a.blk", "lh"]);
+    assert_eq!(names(&folder), ["5", "a.blk", "bounds", "cone", "lh"]);
+    let picture = fs::read_to_string(format!("{folder}/bounds")).expect("the picture");
+    assert!(picture.starts_with("<svg "), "{picture}");
+}
+
+/// A file that has the name of an order is read where it is given with its folder, and not else.
+#[test]
+fn orders_by_a_word_or_a_file() {
+    let folder = folder("names");
+    fs::write(format!("{folder}/cone"), "1 0").expect("written");
+    for (order, line) in [
+        ("cone", "\nsplit order: cone (0 1)\n"),
+        ("./cone", "\nsplit order: ./cone (1 0)\n"),
+    ] {
+        let arguments = ["search", "a.blk", "--order", order];
+        let ended = command(&arguments).current_dir(&folder).output();
+        let output = String::from_utf8(ended.expect("the command starts").stdout);
+        assert!(output.expect("text").contains(line), "{order}");
+    }
 }
 
 /// A file that exists is replaced, with its permissions, and where a link leads to it the link stays.

@@ -7,11 +7,12 @@ use crate::markup::well_formed;
 use crate::run::{lone_input, printed, root, run_on, scratch, text};
 
 /// The blocks of the examples, as operands.
-const BLOCKS: [&[&str]; 4] = [
+const BLOCKS: [&[&str]; 5] = [
     &["examples/block_s.blk"],
     &["examples/block_f.blk"],
     &["examples/adder24.blk"],
     &["examples/c17.bench", "--cells", "examples/cells.txt"],
+    &["examples/rotate8.bench", "--cells", "examples/cells.txt"],
 ];
 
 /// The text that a command writes to the file of its last option.
@@ -108,6 +109,25 @@ fn a_page_has_the_numbers() {
     assert_eq!(rows.len(), 8 + 2 + 5);
     let missing = rows.iter().find(|row| !page.contains(*row));
     assert_eq!(missing, None);
+}
+
+/// The list of inputs stands on the page whole, and on the picture as far as there is room; in what is printed it is
+/// wrapped.
+#[test]
+fn the_order_is_shown() {
+    let order = ["search", "examples/adder24.blk", "--order", "bounds"];
+    let page = [&["report"], &order[1..], &["-o"]].concat();
+    let page = written(&page, "order.html");
+    let picture = written(&[&order[..], &["--svg"]].concat(), "order.svg");
+    let printed = printed(&order);
+    let (_, list) = printed.split_once("\nsplit order: ").expect("the list");
+    let (list, _) = list.split_once("\n\n").expect("its end");
+    assert_eq!(list.lines().count(), 2, "{list}");
+    let line = format!("split order: {}", list.replace("\n  ", " "));
+    assert!(page.contains(&format!("<br/>{line}</p>")), "{line}");
+    let beginning = format!(">{}", line.split_at(50).0);
+    assert!(picture.contains(&beginning), "{beginning}");
+    assert!(page.contains(&beginning), "{beginning}");
 }
 
 /// The rows in which a page has the numbers that a subcommand prints after their names.

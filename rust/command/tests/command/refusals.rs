@@ -274,6 +274,102 @@ mod of_arguments {
         );
     }
 
+    /// What is wrong with a list of inputs, by the lines of its file. A report refuses it as a search does.
+    #[track_caller]
+    fn of_list(block: &[&str], list: &str, faults: &[&str]) {
+        let [path, page] = ["list.txt", "refused.html"].map(scratch);
+        fs::write(&path, list).expect("written");
+        let meaning = "the list of inputs to split does not name each input exactly once";
+        let refusal = format!("{path}: refused 19: {meaning}");
+        let lines = [&[&refusal[..]], faults].concat();
+        let order = ["--order", &path];
+        refused(run(&[&["search"], block, &order].concat()), &lines);
+        let report = [&["report"], block, &order, &["-o", &page]].concat();
+        refused(run(&report), &lines);
+        assert!(!Path::new(&page).exists());
+    }
+
+    #[test]
+    fn order() {
+        let block = ["examples/block_f.blk"];
+        for (list, faults) in [
+            ("", &["no line names the inputs 0, 1"][..]),
+            ("# 0\n1", &["no line names the input 0"]),
+            ("0\n1 0", &["line 2 names 0 a second time, after line 1"]),
+            (
+                "1 1 1",
+                &["line 1 names 1 twice", "no line names the input 0"],
+            ),
+            (
+                "0\n\n1\n2",
+                &["line 4 names 2, which is a gate and no input"],
+            ),
+            (
+                "4 0 1",
+                &["line 1 names 4, and examples/block_f.blk has 4 nets"],
+            ),
+            (
+                "256 1",
+                &[
+                    "line 1 names 256, and examples/block_f.blk has 4 nets",
+                    "no line names the input 0",
+                ],
+            ),
+        ] {
+            of_list(&block, list, faults);
+        }
+    }
+
+    /// Of a bench text by its names, also where a gate's net has more than a byte.
+    #[test]
+    fn order_by_names() {
+        let c17 = ["examples/c17.bench", "--cells", CELLS];
+        let of_c17 = |list, faults: &[&str]| of_list(&c17, list, faults);
+        of_c17(
+            "1 2 3\n6 22\n",
+            &[
+                "line 2 names 22, which is a gate and no input",
+                "no line names the input 7",
+            ],
+        );
+        of_c17(
+            "7 6\n3 2\n7 1\n",
+            &["line 3 names 7 a second time, after line 1"],
+        );
+        let gates = (1..300).map(|gate| format!("n{gate} = NOT(n0)\n"));
+        let path = scratch("long.bench");
+        let text = "INPUT(n0)\n".to_string() + &gates.collect::<String>();
+        fs::write(&path, text).expect("written");
+        of_list(
+            &[&path, "--cells", CELLS],
+            "n0 n299",
+            &["line 1 names n299, which is a gate and no input"],
+        );
+    }
+
+    /// The list is judged after the other arguments; where it is made by bounds, they are refused as ever.
+    #[test]
+    fn order_and_others() {
+        let path = scratch("no-list.txt");
+        fs::write(&path, "0").expect("written");
+        for order in [&path, "bounds", "cone"] {
+            of_block_f(
+                &["search", "--order", order, "--hop-limit", "0"],
+                &[
+                    "examples/block_f.blk: refused 11: the hop limit is not 1 to 16",
+                    "the hop limit is 0 runs",
+                ],
+            );
+            of_block_f(
+                &["search", "--order", order, "--ratio", "10001"],
+                &[
+                    "examples/block_f.blk: refused 13: the ratio is not 1,000 to 10,000",
+                    "the ratio is 10,001 thousandths",
+                ],
+            );
+        }
+    }
+
     #[test]
     fn pattern() {
         let highs = ["h"; 49];
@@ -299,11 +395,19 @@ mod of_arguments {
             ["--vcd", vcd],
             ["--pattern", pattern],
         ];
-        let search = ["search", "examples/block_f.blk", "--ratio", "1"];
-        let ended = run(&[&search[..], &files.concat()].concat());
-        assert_eq!(ended.status, 1, "{ended:?}");
-        for path in &paths {
-            assert!(!Path::new(path).exists(), "{path}");
+        let [list, words] = ["twice.txt", "words.txt"].map(scratch);
+        fs::write(&list, "0 0").expect("written");
+        fs::write(&words, "a b").expect("written");
+        for (option, value, status) in [
+            ("--ratio", "1", 1),
+            ("--order", &list[..], 1),
+            ("--order", &words[..], 2),
+        ] {
+            let search = ["search", "examples/block_f.blk", option, value];
+            let ended = run(&[&search[..], &files.concat()].concat());
+            assert_eq!((ended.status, &ended.output[..]), (status, ""), "{ended:?}");
+            let written = paths.iter().find(|path| Path::new(path).exists());
+            assert_eq!(written, None);
         }
     }
 }

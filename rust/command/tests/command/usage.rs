@@ -207,6 +207,7 @@ fn standard_input_twice() {
         &["simulate", "-", "-"][..],
         &["simulate", "-", "--table", "-", "lh"],
         &["bench", "-", "--cells", "-", "-o", "x"],
+        &["search", "-", "--order", "-"],
     ] {
         misused(arguments, "standard input is given for more than one file");
     }
@@ -341,6 +342,92 @@ fn files_of_patterns() {
         fs::write(&path, pattern).expect("written");
         wrong(&["simulate", BLOCK, &path], &format!("{path}: {message}"));
     }
+}
+
+/// Of a list of inputs, a word that calls no net.
+#[test]
+fn files_of_orders() {
+    let path = scratch("an order.txt");
+    let text = "examples/c17.bench";
+    let of_block = "the nets of a block file go by their numbers";
+    let of_text = "the nets of a bench text go by their names, not by their numbers";
+    for (list, block, message) in [
+        (
+            "0\n# x\n1, 2\n",
+            &[BLOCK][..],
+            format!("line 3: 1, is no net number: {of_block}"),
+        ),
+        (
+            "-1",
+            &[BLOCK],
+            format!("line 1: -1 is no net number: {of_block}"),
+        ),
+        (
+            "1 2\n\n4 6 7",
+            &[text, "--cells", "examples/cells.txt"],
+            format!("line 3: no net has the name 4: {of_text}"),
+        ),
+    ] {
+        fs::write(&path, list).expect("written");
+        let arguments = [&["search"], block, &["--order", &path]].concat();
+        wrong(&arguments, &format!("{path}: {message}"));
+    }
+    wrong(
+        &["search", BLOCK, "--order", "nowhere"],
+        "nowhere: no such file",
+    );
+}
+
+/// Subcommands that do not search have no order.
+#[test]
+fn orders_where_nothing_is_split() {
+    for subcommand in ["envelope", "simulate", "read"] {
+        let arguments = [subcommand, BLOCK, "--order", "cone"];
+        misused(&arguments, "there is no option --order");
+    }
+    misused(
+        &["search", BLOCK, "--order", "--svg"],
+        "--order takes a value: --order ORDER",
+    );
+}
+
+/// A list of inputs in a file, by names or numbers, on several lines or one, is as good as one that is made, and so is
+/// one on standard input.
+#[test]
+fn orders_in_other_forms() {
+    let cells = ["--cells", "examples/cells.txt"];
+    let search = |order: &str| {
+        let arguments = ["search", "examples/c17.bench", "--order", order];
+        printed(&[&arguments[..], &cells].concat())
+    };
+    let path = scratch("order.txt");
+    let bounds = search("bounds");
+    let list = "split order: bounds (2 7 3 6 1)";
+    assert!(bounds.contains(list), "{bounds}");
+    fs::write(&path, "\u{feff}# by bounds\r\n2 7\t3\r\n\r\n6 # then\r\n1").expect("written");
+    assert_eq!(
+        search(&path),
+        bounds.replace(": bounds (", &format!(": {path} ("))
+    );
+    let arguments = [
+        &["search", "examples/c17.bench", "--order", "-"],
+        &cells[..],
+    ]
+    .concat();
+    let ended = run_on(b"2 7 3 6 1", &arguments);
+    let expected = bounds.replace(": bounds (", ": standard input (");
+    assert_eq!((ended.status, ended.output), (0, expected));
+    assert_eq!(
+        search("cone"),
+        printed(&[&["search", "examples/c17.bench"], &cells[..]].concat())
+    );
+    let block = scratch("c17.blk");
+    printed(&[&["bench", "examples/c17.bench", "-o", &block], &cells[..]].concat());
+    let numbers = printed(&["search", &block, "--order=bounds"]);
+    assert!(
+        numbers.contains("split order: bounds (1 4 2 3 0)\n"),
+        "{numbers}"
+    );
 }
 
 /// Words in one operand, and a pattern or a block on standard input, are as good as others.
