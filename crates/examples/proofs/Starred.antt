@@ -34,12 +34,14 @@ use Rattle.current.specs.Examples.{tableF}
 use Rattle.current.specs.Pulse.{levelAfter, pulse, pulseAt}
 use Rattle.current.specs.Rounding.{evenOf, nearest}
 use Rattle.current.proofs.Examples.{current-examples}
+use Rattle.operation.specs.SplitOrder.{timesNamed, namesEach}
 use Rattle.operation.proofs.Operations.{by-arguments}
 use Rattle.operation.specs.declared.Outcome.{Outcome}
 use Rattle.operation.specs.declared.Outcome.the-variants.{Exact, Within, Spent}
 use Rattle.cases.specs.Case.{undecided, decided, firstAllowed, probe, evaluationOf, membersBelow, childrenBelow}
 use Rattle.cases.proofs.Cases.{evaluation-undecided}
-use Rattle.cases.specs.Choice.{coneSizes, rankOf, rank, chosenInput}
+use Rattle.cases.specs.Choice.{firstUndecided}
+use Rattle.cases.specs.SplitOrder.{putIn, inOrder, wider, coneOrder}
 use Rattle.evaluation.specs.Evaluation.{simulatedSheet, envelopeSheet}
 use Rattle.bounds.specs.Bounds.{sheetOver}
 use Rattle.cases.specs.Search.{SearchEnd, upperAt, setsAt, greatestUpper, nextSplit, placed, outcomeOf, better, bestOf, firstBest, madeUnder, firstState, nextChildren, split, outcomeAt, searchFrom, search, casesSheet}
@@ -47,7 +49,7 @@ use Rattle.laws.specs.Ascii.{ascii}
 use Rattle.examples.specs.Starred.{tableS, searching, finding, SearchExamples, Starred}
 use Rattle.search.specs.Search.{SearchArguments, searchOf, foundBy, argumentChecks, searchVerdict}
 use Rattle.program.specs.Lines.{digits, decimal, line}
-use Rattle.program.specs.Program.{programArguments, excitationWord, searchText, programText}
+use Rattle.program.specs.Program.{argumentsWith, programArguments, excitationWord, searchText, programText}
 use Rattle.program.proofs.Searches.{programChecks}
 
 -- How the searches of block F and block S end: with their frame as the one case, or, after a split, with a case for each excitation of their
@@ -89,20 +91,20 @@ endS = record {
 }
 
 ends-unsplit-F : searchOf (searching blockF tableF 1000 0) ≡ frameEnd Spent blockF 67 66 (lh ∷ lh ∷ [])
-unfolding allBelow anyBelow maxBelow argmax sumBelow countBelow inTurn listBelow excitationOf member decode joinSets each size isInput kindOf gateValue gateOf switchingTick inputsBelow frame feeds fedFrom coneSize extend runsFrom gapsAfter gaps shorter shortest close closeFirst closeShortest closeWhile merged inside holding ticksInside fillTicks setsHolding filled earlier inputWaveform gateFrom pinWaveform gateAt gateWaveform netWaveform waveforms evenOf nearest levelAfter pulse pulseAt edgePulse allowedPulse gateCurrent transitionsFrom drawsAt part contactCurrent dropAt dropOf transitionsOf sheetOf undecided decided firstAllowed probe evaluationOf membersBelow childrenBelow coneSizes rankOf rank chosenInput upperAt setsAt greatestUpper nextSplit placed outcomeOf better bestOf firstBest madeUnder firstState nextChildren split outcomeAt searchFrom search searchOf
+unfolding allBelow anyBelow maxBelow argmax sumBelow countBelow inTurn listBelow excitationOf member decode joinSets each size isInput kindOf gateValue gateOf switchingTick inputsBelow frame feeds fedFrom coneSize putIn inOrder wider coneOrder firstUndecided extend runsFrom gapsAfter gaps shorter shortest close closeFirst closeShortest closeWhile merged inside holding ticksInside fillTicks setsHolding filled earlier inputWaveform gateFrom pinWaveform gateAt gateWaveform netWaveform waveforms evenOf nearest levelAfter pulse pulseAt edgePulse allowedPulse gateCurrent transitionsFrom drawsAt part contactCurrent dropAt dropOf transitionsOf sheetOf undecided decided firstAllowed probe evaluationOf membersBelow childrenBelow upperAt setsAt greatestUpper nextSplit placed outcomeOf better bestOf firstBest madeUnder firstState nextChildren split outcomeAt searchFrom search searchOf
 ends-unsplit-F = refl
 
 ends-F : searchOf (searching blockF tableF 1000 200) ≡ endF
-unfolding allBelow anyBelow maxBelow argmax sumBelow countBelow inTurn listBelow excitationOf member decode joinSets each size isInput kindOf gateValue gateOf switchingTick inputsBelow frame feeds fedFrom coneSize extend runsFrom gapsAfter gaps shorter shortest close closeFirst closeShortest closeWhile merged inside holding ticksInside fillTicks setsHolding filled earlier inputWaveform gateFrom pinWaveform gateAt gateWaveform netWaveform waveforms evenOf nearest levelAfter pulse pulseAt edgePulse allowedPulse gateCurrent transitionsFrom drawsAt part contactCurrent dropAt dropOf transitionsOf sheetOf undecided decided firstAllowed probe evaluationOf membersBelow childrenBelow coneSizes rankOf rank chosenInput upperAt setsAt greatestUpper nextSplit placed outcomeOf better bestOf firstBest madeUnder firstState nextChildren split outcomeAt searchFrom search searchOf
+unfolding allBelow anyBelow maxBelow argmax sumBelow countBelow inTurn listBelow excitationOf member decode joinSets each size isInput kindOf gateValue gateOf switchingTick inputsBelow frame feeds fedFrom coneSize putIn inOrder wider coneOrder firstUndecided extend runsFrom gapsAfter gaps shorter shortest close closeFirst closeShortest closeWhile merged inside holding ticksInside fillTicks setsHolding filled earlier inputWaveform gateFrom pinWaveform gateAt gateWaveform netWaveform waveforms evenOf nearest levelAfter pulse pulseAt edgePulse allowedPulse gateCurrent transitionsFrom drawsAt part contactCurrent dropAt dropOf transitionsOf sheetOf undecided decided firstAllowed probe evaluationOf membersBelow childrenBelow upperAt setsAt greatestUpper nextSplit placed outcomeOf better bestOf firstBest madeUnder firstState nextChildren split outcomeAt searchFrom search searchOf
 ends-F = refl
 
 ends-unsplit-S : (searchOf (searching blockS tableS 1999 0) ≡ frameEnd Spent blockS 20 10 (lh ∷ []))
     × (searchOf (searching blockS tableS 2000 0) ≡ frameEnd Within blockS 20 10 (lh ∷ []))
-unfolding allBelow anyBelow maxBelow argmax sumBelow countBelow inTurn listBelow excitationOf member decode joinSets each size isInput kindOf gateValue gateOf switchingTick inputsBelow frame feeds fedFrom coneSize extend runsFrom gapsAfter gaps shorter shortest close closeFirst closeShortest closeWhile merged inside holding ticksInside fillTicks setsHolding filled earlier inputWaveform gateFrom pinWaveform gateAt gateWaveform netWaveform waveforms evenOf nearest levelAfter pulse pulseAt edgePulse allowedPulse gateCurrent transitionsFrom drawsAt part contactCurrent dropAt dropOf transitionsOf sheetOf undecided decided firstAllowed probe evaluationOf membersBelow childrenBelow coneSizes rankOf rank chosenInput upperAt setsAt greatestUpper nextSplit placed outcomeOf better bestOf firstBest madeUnder firstState nextChildren split outcomeAt searchFrom search searchOf
+unfolding allBelow anyBelow maxBelow argmax sumBelow countBelow inTurn listBelow excitationOf member decode joinSets each size isInput kindOf gateValue gateOf switchingTick inputsBelow frame feeds fedFrom coneSize putIn inOrder wider coneOrder firstUndecided extend runsFrom gapsAfter gaps shorter shortest close closeFirst closeShortest closeWhile merged inside holding ticksInside fillTicks setsHolding filled earlier inputWaveform gateFrom pinWaveform gateAt gateWaveform netWaveform waveforms evenOf nearest levelAfter pulse pulseAt edgePulse allowedPulse gateCurrent transitionsFrom drawsAt part contactCurrent dropAt dropOf transitionsOf sheetOf undecided decided firstAllowed probe evaluationOf membersBelow childrenBelow upperAt setsAt greatestUpper nextSplit placed outcomeOf better bestOf firstBest madeUnder firstState nextChildren split outcomeAt searchFrom search searchOf
 ends-unsplit-S = (refl, refl)
 
 ends-S : searchOf (searching blockS tableS 1000 200) ≡ endS
-unfolding allBelow anyBelow maxBelow argmax sumBelow countBelow inTurn listBelow excitationOf member decode joinSets each size isInput kindOf gateValue gateOf switchingTick inputsBelow frame feeds fedFrom coneSize extend runsFrom gapsAfter gaps shorter shortest close closeFirst closeShortest closeWhile merged inside holding ticksInside fillTicks setsHolding filled earlier inputWaveform gateFrom pinWaveform gateAt gateWaveform netWaveform waveforms evenOf nearest levelAfter pulse pulseAt edgePulse allowedPulse gateCurrent transitionsFrom drawsAt part contactCurrent dropAt dropOf transitionsOf sheetOf undecided decided firstAllowed probe evaluationOf membersBelow childrenBelow coneSizes rankOf rank chosenInput upperAt setsAt greatestUpper nextSplit placed outcomeOf better bestOf firstBest madeUnder firstState nextChildren split outcomeAt searchFrom search searchOf
+unfolding allBelow anyBelow maxBelow argmax sumBelow countBelow inTurn listBelow excitationOf member decode joinSets each size isInput kindOf gateValue gateOf switchingTick inputsBelow frame feeds fedFrom coneSize putIn inOrder wider coneOrder firstUndecided extend runsFrom gapsAfter gaps shorter shortest close closeFirst closeShortest closeWhile merged inside holding ticksInside fillTicks setsHolding filled earlier inputWaveform gateFrom pinWaveform gateAt gateWaveform netWaveform waveforms evenOf nearest levelAfter pulse pulseAt edgePulse allowedPulse gateCurrent transitionsFrom drawsAt part contactCurrent dropAt dropOf transitionsOf sheetOf undecided decided firstAllowed probe evaluationOf membersBelow childrenBelow upperAt setsAt greatestUpper nextSplit placed outcomeOf better bestOf firstBest madeUnder firstState nextChildren split outcomeAt searchFrom search searchOf
 ends-S = refl
 
 -- The quiet ticks of their final sheets. Each sheet stands once, so that it is computed once.
@@ -197,19 +199,19 @@ block-S = (found-at _ _ 1 ends-S (split-quiet-S ∙ quiet-S .1), ap (λ e. e .st
 -- The program on block S: it passes all checks, and what is found is printed.
 
 arguments-pass : Accepted ≡ verdict (programChecks blockS 3 1)
-unfolding verdict argumentChecks within programArguments
+unfolding verdict argumentChecks within argumentsWith namesEach timesNamed allBelow inputsBelow isInput kindOf putIn inOrder wider coneOrder countBelow coneSize fedFrom feeds anyBelow inTurn
 arguments-pass = refl
 
 passes-S : searchVerdict (programArguments blockS) ≡ Accepted
-unfolding searchVerdict programArguments
+unfolding searchVerdict argumentsWith
 passes-S = by-arguments blockS (programChecks blockS) (λ v. v ≡ Accepted) {read = readOf blockS} refl (block-examples .read-S) arguments-pass refl refl
 
 found-S : foundBy (programArguments blockS) ≡ finding Exact 10 10 1 4 1
-unfolding programArguments searchOf foundBy
+unfolding argumentsWith searchOf foundBy
 found-S = block-S .0
 
 probe-S : searchOf (programArguments blockS) .state .best .pattern ≡ lh ∷ []
-unfolding programArguments searchOf
+unfolding argumentsWith searchOf
 probe-S = block-S .1
 
 text-S : programText blockS ≡ ascii "exact 10 10 1 4\nlh\n"

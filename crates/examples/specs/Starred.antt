@@ -14,6 +14,7 @@ use Rattle.current.specs.Examples.{tableF, CurrentExamples}
 use Rattle.operation.specs.declared.Found.{Found}
 use Rattle.operation.specs.declared.Outcome.{Outcome}
 use Rattle.operation.specs.declared.Outcome.the-variants.{Exact, Within, Spent}
+use Rattle.cases.specs.SplitOrder.{coneOrder}
 use Rattle.search.specs.Search.{SearchArguments, searchOf, foundBy}
 use Rattle.program.specs.Program.{programText}
 
@@ -21,7 +22,8 @@ use Rattle.program.specs.Program.{programText}
 abbrev pub tableS : List ℕ
 tableS = replicate 16 1
 
--- A search with a hop limit of 10, of a file with a table, a ratio and a budget. What is found does not depend on the buffers lent.
+-- A search with a hop limit of 10 and the first maker's list, of a file with a table, a ratio and a budget. What is found does not depend
+-- on the buffers lent.
 abbrev pub searching : File → List ℕ → ℕ → ℕ → SearchArguments
 searching file table ratio budget = record {
   file = file;
@@ -29,6 +31,7 @@ searching file table ratio budget = record {
   table = table;
   ratio = ratio;
   budget = budget;
+  order = coneOrder file;
   sheet = [];
   pattern = [];
   work = [];
