@@ -1,6 +1,6 @@
 //! "The search rests on the envelope's promise and on nothing inside it": what the crates name of each
-//! other, and what the proofs of the search, in `bounds` and `search`, open, read from the text of the
-//! crates.
+//! other, and what the proofs of the search, in `bounds`, `split_order` and `search`, open, read from the
+//! text of the crates.
 //!
 //! A definition of another module is shut unless a proof names it on an `unfolding` line or in
 //! `unfold .. in`; only an `abbrev` opens by itself. So all that the search can see of the crates below
@@ -13,7 +13,7 @@ use std::path::Path;
 use check::repository::{declares, files, text};
 
 /// The crates of the search above `cases`.
-const SEARCH: [&str; 2] = ["bounds", "search"];
+const SEARCH: [&str; 3] = ["bounds", "split_order", "search"];
 
 /// The crates inside which the search may not look.
 const INSIDE: [&str; 9] = [
@@ -44,7 +44,7 @@ const CITED: [Named; 11] = [
     },
     Named {
         module: "evaluation.specs.Evaluation",
-        names: &["Evaluable", "InputCodes", "sheetFor", "Evaluated"],
+        names: &["Evaluable", "HasRows", "InputCodes", "sheetFor", "Evaluated"],
         why: "What the contract of `evaluate` names: what it is given and what it gives.",
     },
     Named {
@@ -117,7 +117,7 @@ const ABBREVIATIONS: [(&[&str], &str); 3] = [
 ];
 
 /// All that the search unfolds, in its proofs and anywhere, of crates other than its own, `cases` and `laws`.
-const UNFOLDED: [Named; 5] = [
+const UNFOLDED: [Named; 8] = [
     Named {
         module: "simulator.specs.Simulate",
         names: &["sizeChecks", "simulateVerdict"],
@@ -134,9 +134,24 @@ const UNFOLDED: [Named; 5] = [
         why: "The verdict on a file.",
     },
     Named {
-        module: "excitation.specs.UncertaintySet",
-        names: &["code", "setsIn"],
-        why: "The sets that the bytes of a case's record stand for.",
+        module: "operation.specs.SplitOrder",
+        names: &["listBytes"],
+        why: "The bytes that a maker returns its list in.",
+    },
+    Named {
+        module: "block.specs.Block",
+        names: &["coneSize", "fedFrom", "feeds"],
+        why: "The fan-out cone of an input, which the first maker counts; it knows gates and pins, and no current.",
+    },
+    Named {
+        module: "block.specs.View",
+        names: &["gateOf"],
+        why: "The gate that a record holds, by whose pins a cone goes.",
+    },
+    Named {
+        module: "bits.specs.Bits",
+        names: &["bitAt"],
+        why: "The bits of the words that cones are counted by.",
     },
     Named {
         module: "excitation.specs.Excitation",

@@ -7,7 +7,7 @@ use check::repository::text;
 use check::trace::{code, rows, Row, PARTS};
 
 /// The headings of document 01 that say what binds us, and the change requests.
-const HEADINGS: [&str; 16] = [
+const HEADINGS: [&str; 17] = [
     "The block file",
     "Refusals in checking order",
     "Excitations and sets",
@@ -24,6 +24,7 @@ const HEADINGS: [&str; 16] = [
     "Request 3: the quiet tick to the tick",
     "Request 4: nearest, half to even",
     "Request 5: overlapping pulses add",
+    "Request 6: split order from the bounds",
 ];
 
 /// The names of a row that are nowhere, and items with a name but no kind, whose names nobody looks up.
