@@ -1,6 +1,7 @@
--- The agreement of the two houses (document 01, "What the checker must hold us to", 3): one house's search, whatever its hop limit, ratio
--- and budget, and the other's simulation of whichever pattern in the frame. Both are given by the promises of the operations and by the
--- buffers as they stand at return; the two runs share the file and the table, and nothing else. The clause on quiet ticks is request 3's.
+-- The agreement of the two houses (document 01, "What the checker must hold us to", 3): one house's search, whatever its hop limit, ratio,
+-- budget and list of inputs, and the other's simulation of whichever pattern in the frame. Both are given by the promises of the
+-- operations and by the buffers as they stand at return; the two runs share the file and the table, and nothing else. The clause on quiet
+-- ticks is request 3's.
 use Prim.Native.Nat.{ℕ, _+_, _*_, _≤_, _<_}
 use mathlib.Core.List.{List}
 use mathlib.Core.Path.{_≡_}

@@ -1,7 +1,7 @@
 -- The agreement of the two houses over the calls that they link (document 01, "What the checker must hold us to", 3): the same statement as
 -- search/specs/Agreement.antt, over the eight numbers of each answer and the buffers as they stand at return. One house calls Search, with
--- whatever hop limit, ratio and budget, and the other calls Simulate on whichever pattern in the frame; the two calls share the file and the
--- table, and nothing else. The clause on quiet ticks is request 3's.
+-- whatever hop limit, ratio, budget and list of inputs, and the other calls Simulate on whichever pattern in the frame; the two calls share
+-- the file and the table, and nothing else. The clause on quiet ticks is request 3's.
 use Prim.Native.Nat.{ℕ, _+_, _*_, _≤_, _<_}
 use mathlib.Core.List.{List}
 use mathlib.Core.Path.{_≡_}
