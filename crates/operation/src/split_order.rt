@@ -4,16 +4,17 @@ ghost use Prim.Native.Nat.{_≤_};
 ghost use lib.ListN.{length};
 ghost use Rattle.block.specs.Verdict.{also};
 ghost use Rattle.operation.specs.SplitOrder.{timesNamed, namesEach, orderCheck};
+use block::Net;
 use block::Verdict;
 
 // How often a list names a net.
-fn times_named(order: &[u8], net: usize) -> usize
-    ensures { λ r. ⌜ (r ≡ timesNamed (now (order .entry)) net) × (r ≤ length (now (order .entry))) ⌝ }
+fn times_named(order: &[u8], net: Net) -> usize
+    ensures { λ r. ⌜ (r ≡ timesNamed (now (order .entry)) (net .0)) × (r ≤ length (now (order .entry))) ⌝ }
 {
     let mut times: usize = 0;
     let mut k: usize = 0;
     while k < order.len() {
-        if numbers::usize_from_u8(order[k]) == net {
+        if numbers::usize_from_u8(order[k]) == net.0 {
             times += 1;
         }
         k += 1;
@@ -30,7 +31,7 @@ fn names_each(order: &[u8], inputs: usize) -> bool
     }
     let mut net: usize = 0;
     while net < inputs {
-        if times_named(order, net) != 1 {
+        if times_named(order, Net(net)) != 1 {
             return false;
         }
         net += 1;

@@ -12,7 +12,7 @@ use Rattle.operation.proofs.split_order.times_named.Statement.{statemen
 use Rattle.operation.proofs.split_order.times_named.Tie as tie
 
 abbrev Inv-loop : tie.InvT-loop
-Inv-loop order net times₀ k₀ times k = (k ≤ length order) × (times ≤ k) × (times + timesNamed (drop k order) net ≡ timesNamed order net)
+Inv-loop order net times₀ k₀ times k = (k ≤ length order) × (times ≤ k) × (times + timesNamed (drop k order) (net .0) ≡ timesNamed order (net .0))
 
 abbrev μ-loop : tie.MeasureT-loop
 μ-loop order net times₀ k₀ times k = length order - k
@@ -37,23 +37,23 @@ loop-less c = search needs
 
 loop-again : tie.Need-loop-again Inv-loop μ-loop
 loop-again c =
-    let inv = c .before .before .before .before .loop .inv in
-    let k = c .before .before .before .before .loop .k in
-    let args = c .before .before .before .before .before .before .args in
+    let inv = c .before .before .before .before .before .loop .inv in
+    let k = c .before .before .before .before .before .loop .k in
+    let args = c .before .before .before .before .before .before .before .args in
     let order = args .order .now in
-    let net = args .net in
-    let taken = c .before .before .before .loop-test .taken in
-    let x = c .before .usize-from-u8 .ensures .0 in
+    let net = args .net .0 in
+    let taken = c .before .before .before .before .loop-test .taken in
+    let x = c .before .before .usize-from-u8 .ensures .0 in
     ⊎-elim
-    (λ w. (omega arith, omega (arith, inv .1, w .1), omega (arith, inv .2, w .1, times-here order net k (c .before .usize-from-u8 .result) taken x (w .0 .taken))))
-    (λ w. (omega arith, omega (arith, inv .1, w .1), omega (arith, inv .2, w .1, times-other order net k (c .before .usize-from-u8 .result) taken x (w .0 .left))))
+    (λ w. (omega arith, omega (arith, inv .1, w .1), omega (arith, inv .2, w .1, times-here order net k (c .before .before .usize-from-u8 .result) taken x (w .0 .taken))))
+    (λ w. (omega arith, omega (arith, inv .1, w .1), omega (arith, inv .2, w .1, times-other order net k (c .before .before .usize-from-u8 .result) taken x (w .0 .left))))
     (c .if1 .came)
 
 returns : tie.Need-returns Inv-loop μ-loop
 returns c =
     let order = c .before .before .before .args .order .now in
     let inv = c .before .loop .inv in
-    (omega (arith, inv .2, times-end order (c .before .before .before .args .net) (c .before .loop .k) (omega arith)), omega (arith, inv .0, inv .1))
+    (omega (arith, inv .2, times-end order (c .before .before .before .args .net .0) (c .before .loop .k) (omega arith)), omega (arith, inv .0, inv .1))
 
 pub times-named-spec : {M : Type 1} → statement M
 times-named-spec =
