@@ -15,7 +15,7 @@ falling-more before (n ∷ rest) x = falling-more (putFalling n before) rest x
 put-long : (x : ℕ) (ys : List ℕ) → length (putFalling x ys) ≡ suc (length ys)
 unfolding putFalling
 put-long x [] = refl
-put-long x (y ∷ rest) = ap suc (put-long (min x y) rest)
+put-long x (y ∷ rest) = ap suc (put-long _ rest)
 
 falling-long : (before xs : List ℕ) → length (fallingWith before xs) ≡ length before + length xs
 unfolding fallingWith
