@@ -107,7 +107,6 @@ told-inputs file (verdict-is.Refused s) n e = absurd (let z : _≡_ {A = ℕ} 0 
 -- The first so many bytes are the list, which names at least one input and at most 64.
 pub record ListMade (file : File) (n : ℕ) (bytes : List ℕ) : Type 0 where
   pub list : take n bytes ≡ coneOrder file
-  pub counted : n ≡ inputCount file
   pub some : 1 ≤ n
   pub few : n ≤ 64
   pub room : n ≤ length bytes
@@ -126,7 +125,6 @@ module _ (file : File) {made : SplitOrder} (is : made ≡ coneOrderMade file) wh
       let long = cone-order-long file in
       record {
         list = ap (take n) bytes ∙ take-at (coneOrder file) _ n (sym (said .1));
-        counted = said .1 ∙ long;
         some = omega (arith, said .1, long, whole .one-input);
         few = omega (arith, said .1, long, whole .few-inputs);
         room = omega (arith, said .1, ap length bytes, length-append (coneOrder file) (replicate (64 - length (coneOrder file)) 0));
