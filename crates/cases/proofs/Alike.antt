@@ -17,7 +17,7 @@ use Rattle.block.specs.Record.{File}
 use Rattle.block.proofs.Frames.{frame-long}
 use Rattle.cases.specs.Case.{Case, membersBelow, childrenBelow, children}
 use Rattle.cases.specs.Choice.{firstUndecided, coneSizes, rankOf, rank, chosenInput}
-use Rattle.cases.specs.Search.{StoredCase, noCase, setsAt, greatestUpper, nextSplit, placed, State, SearchEnd, bestOf, madeUnder, firstState, nextChildren, split, outcomeAt, searchFrom, search}
+use Rattle.cases.specs.Search.{StoredCase, setsAt, greatestUpper, nextSplit, placed, State, bestOf, madeUnder, firstState, nextChildren, split, outcomeAt, searchFrom, search}
 use Rattle.operation.specs.declared.Outcome.{Outcome}
 use Rattle.operation.specs.declared.Outcome.the-variants.{Exact, Within, Spent}
 use Rattle.cases.specs.SplitOrder.{coneOrder}

@@ -1,6 +1,5 @@
 -- Lists of inputs in the order to be split (request 6), computed: which lists check 19 lets pass, how a maker sorts, and what it writes of
 -- an input that it tries.
-use Prim.Native.Nat.{ℕ}
 use mathlib.Core.Bool.{true, false}
 use mathlib.Core.List.{[], _∷_}
 use mathlib.Core.Path.{_≡_}

@@ -14,7 +14,6 @@ use Rattle.block.specs.Block.{inputCount}
 use Rattle.block.specs.Record.{File}
 use Rattle.block.specs.Refusals.{readOf}
 use Rattle.block.specs.Verdict.{Check, refusal}
-use Rattle.block.specs.declared.ReadAnswer.{ReadAnswer}
 use Rattle.block.specs.declared.ReadAnswer.the-variants as read-answer
 use Rattle.block.specs.declared.Refusal.{Refusal}
 use Rattle.operation.specs.declared.Found.{Found}

@@ -6,7 +6,7 @@ use mathlib.Core.List.{List}
 use mathlib.Core.Path.{_≡_}
 use lib.ListN.{length, getD, set}
 use Rattle.excitation.specs.Excitation.{excitationOf, patternOf}
-use Rattle.excitation.specs.UncertaintySet.{member, code, decode, single}
+use Rattle.excitation.specs.UncertaintySet.{member, code, decode}
 use Rattle.block.specs.Block.{frame}
 use Rattle.block.specs.Limits.{dropLimit}
 use Rattle.block.specs.Record.{File}

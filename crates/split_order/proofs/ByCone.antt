@@ -1,8 +1,8 @@
 -- Laws of the list by cone: the numbers sort as the cones do, and what the first maker returns.
 -- Assumes nothing.
-use Prim.Native.Nat.{ℕ, suc, _-_, _≤_, _<_}
-use mathlib.Core.Bool.{Bool, true, false}
-use mathlib.Core.List.{List, [], _∷_, _++_}
+use Prim.Native.Nat.{ℕ, _-_, _≤_, _<_}
+use mathlib.Core.Bool.{true, false}
+use mathlib.Core.List.{List, [], _∷_}
 use mathlib.Core.Path.{_≡_, refl, ap, sym, _∙_}
 use native.Mathlib.Omega.{arith}
 use lib.Dec.{eqb, ltb}
@@ -29,7 +29,7 @@ use Rattle.operation.specs.declared.SplitOrder.{SplitOrder}
 use Rattle.operation.proofs.Operations.{file-accepted}
 use Rattle.cases.specs.SplitOrder.{inOrder, lexBelow, wider, coneOrder}
 use Rattle.cases.proofs.SplitOrder.{order-long, order-same}
-use Rattle.split_order.specs.Sorting.{fourAt, smaller, KeysMade, SortsBy}
+use Rattle.split_order.specs.Sorting.{smaller, KeysMade, SortsBy}
 use Rattle.split_order.specs.SplitOrder.{coneOrderMade}
 
 turned : (a b : ℕ) → a ≤ 1024 → b ≤ 1024 → ltb (1024 - a) (1024 - b) ≡ ltb b a

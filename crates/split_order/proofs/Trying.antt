@@ -2,7 +2,7 @@
 -- Assumes nothing.
 use Prim.Native.Nat.{ℕ, _+_, _*_, _≤_, _<_, max, min}
 use mathlib.Core.Bool.{Bool, true, false, not, _&&_, _||_, false≢true}
-use mathlib.Core.List.{List, [], _∷_, _++_, map, map-append}
+use mathlib.Core.List.{List, [], _∷_, map, map-append}
 use mathlib.Core.Path.{_≡_, refl, ap, sym, subst, _∙_}
 use native.Mathlib.Nat.{add-zero}
 use native.Mathlib.Omega.{arith}
@@ -20,7 +20,7 @@ use Rattle.block.specs.Record.{File}
 use Rattle.evaluation.specs.Evaluation.{Evaluable}
 use Rattle.evaluation.specs.declared.Setting.{Setting}
 use Rattle.cases.specs.Case.{Case, undecided, childrenBelow, membersBelow}
-use Rattle.cases.specs.Records.{SetCodes, childCodes}
+use Rattle.cases.specs.Records.{childCodes}
 use Rattle.cases.specs.Search.{madeUnder}
 use Rattle.cases.specs.SplitOrder.{putFalling, fallingWith, four, lexBelow, childUpper, triedUppers, tighter}
 use Rattle.cases.proofs.Children.{child-sets, children-more, children-same, children-few}

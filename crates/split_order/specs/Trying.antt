@@ -10,7 +10,7 @@ use Rattle.block.specs.Limits.{dropLimit}
 use Rattle.block.specs.Record.{File}
 use Rattle.evaluation.specs.Evaluation.{HasRows}
 use Rattle.evaluation.specs.declared.Setting.{Setting}
-use Rattle.cases.specs.Case.{Case, undecided, childrenBelow}
+use Rattle.cases.specs.Case.{undecided, childrenBelow}
 use Rattle.cases.specs.SplitOrder.{four, childUpper, triedUppers, tighter}
 use Rattle.bounds.specs.Bounds.{simulatedDrop, envelopeDrop}
 use Rattle.split_order.specs.Sorting.{fourOf}

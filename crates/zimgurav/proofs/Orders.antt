@@ -2,8 +2,8 @@
 -- Assumes nothing.
 use Prim.Native.Nat.{ℕ}
 use mathlib.Core.Bool.{true}
-use mathlib.Core.List.{List, _++_}
-use mathlib.Core.Path.{_≡_, refl, ap, sym, subst, _∙_}
+use mathlib.Core.List.{List}
+use mathlib.Core.Path.{_≡_, refl, ap, sym, _∙_}
 use lib.ListN.{length, take}
 use lib.Seq.{take-at}
 use Rattle.block.specs.Block.{frame, inputCount, coneSize}
@@ -24,7 +24,7 @@ use Rattle.cases.proofs.Alike.{cone-search}
 use Rattle.cases.proofs.SplitOrder.{order-long, order-right}
 use Rattle.bounds.specs.Bounds.{simulatedDrop, envelopeDrop}
 use Rattle.split_order.specs.SplitOrder.{coneOrderMade, BoundOrderArguments, boundOrderVerdict, frameOrder, BoundOrdered}
-use Rattle.search.specs.Search.{SearchArguments, searchOf}
+use Rattle.search.specs.Search.{searchOf}
 use Rattle.zimgurav.specs.Accepted.{refusedWith}
 use Rattle.zimgurav.specs.Calls.{ConeOrderCalled, BoundOrderCalled}
 use Rattle.zimgurav.specs.Orders.{listIn, MakersServe}

@@ -1,7 +1,7 @@
 -- `cases::choice::choose` meets its contract. The loop's invariant: the scan of the rest of the list is that of the whole.
 -- Assumes nothing.
 use Prim.Native.Nat.{_-_, _≤_}
-use mathlib.Core.Path.{_≡_, refl, sym, subst, _∙_}
+use mathlib.Core.Path.{_≡_, refl, _∙_}
 use native.Mathlib.Omega.{arith}
 use lib.ListN.{drop}
 use Rattle.excitation.specs.UncertaintySet.{setsIn}

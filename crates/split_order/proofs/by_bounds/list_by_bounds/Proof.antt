@@ -1,7 +1,6 @@
 -- `split_order::by_bounds::list_by_bounds` meets its contract.
 -- Assumes nothing.
 use Prim.Native.Nat.{ℕ}
-use mathlib.Core.Path.{_∙_}
 use lib.ListN.{length-replicate}
 use Rattle.block.proofs.Frames.{frame-sets}
 use Rattle.cases.proofs.Frames.{codes-long, frame-coded}

@@ -1,7 +1,7 @@
 -- `split_order::by_bounds::untried` meets its contract.
 -- Assumes nothing.
 use mathlib.Core.Bool.{false≢true}
-use mathlib.Core.Path.{refl, ap, sym, _∙_}
+use mathlib.Core.Path.{ap, sym, _∙_}
 use Rattle.split_order.specs.Sorting.{fourOf}
 use borrow.Author.Needs.{needs}
 use Rattle.split_order.proofs.by_bounds.untried.Statement.{statement}

@@ -1,7 +1,6 @@
 -- `split_order::by_cone::list_by_cone` meets its contract.
 -- Assumes nothing.
 use Prim.Native.Nat.{ℕ}
-use mathlib.Core.Path.{_∙_}
 use native.Mathlib.Omega.{arith}
 use lib.ListN.{length-replicate}
 use Rattle.laws.proofs.Rewritten.{rewritten-first}
