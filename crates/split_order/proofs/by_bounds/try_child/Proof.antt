@@ -1,10 +1,9 @@
 -- `split_order::by_bounds::try_child` meets its contract.
 -- Assumes nothing.
-use mathlib.Core.Path.{ap, _∙_}
+use mathlib.Core.Path.{ap, _∙_, subst, sym}
 use lib.ListN.{length, length-set}
 use Rattle.cases.proofs.Children.{child-coded}
 use Rattle.cases.specs.Records.{SetCodes}
-use mathlib.Core.Path.{subst, sym}
 use Rattle.split_order.proofs.Trying.{tried-skipped, tried-more}
 use borrow.Author.Needs.{needs}
 use Rattle.split_order.proofs.by_bounds.try_child.Statement.{statement}

@@ -1,16 +1,14 @@
 -- `split_order::by_bounds::try_input` meets its contract. The loop's invariant: the children of the first e excitations are tried.
 -- Assumes nothing.
-use mathlib.Core.Path.{sym, subst, _∙_}
+use mathlib.Core.Path.{sym, subst, _∙_, _≡_, refl}
 use Rattle.evaluation.proofs.Given.{evaluable-kept}
 use Rattle.split_order.specs.Sorting.{fourOf}
-use Rattle.split_order.specs.Trying.{TriedKey}
+use Rattle.split_order.specs.Trying.{TriedKey, TriedBelow}
 use Rattle.split_order.specs.declared.Four.{Four}
 use borrow.Author.Needs.{needs}
 use Prim.Native.Nat.{_-_, _≤_}
-use mathlib.Core.Path.{_≡_, refl}
 use native.Mathlib.Omega.{arith}
 use lib.ListN.{length}
-use Rattle.split_order.specs.Trying.{TriedBelow}
 use Rattle.split_order.proofs.Trying.{tried-none, tried-key, decided-key}
 use Rattle.split_order.proofs.by_bounds.try_input.Statement.{statement}
 use Rattle.split_order.proofs.by_bounds.try_input.Tie as tie

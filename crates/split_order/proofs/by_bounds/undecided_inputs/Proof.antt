@@ -1,11 +1,10 @@
 -- `split_order::by_bounds::undecided_inputs` meets its contract. The loop's invariant: the undecided inputs below net are counted.
 -- Assumes nothing.
 use mathlib.Core.Logic.{⊎-elim}
-use mathlib.Core.Path.{_∙_}
+use mathlib.Core.Path.{_∙_, _≡_, refl}
 use Rattle.split_order.proofs.Trying.{count-passed, count-failed}
 use borrow.Author.Needs.{needs}
 use Prim.Native.Nat.{_-_, _≤_}
-use mathlib.Core.Path.{_≡_, refl}
 use native.Mathlib.Omega.{arith}
 use lib.ListN.{getD}
 use Rattle.laws.specs.Below.{countBelow}

@@ -1,14 +1,11 @@
 -- `split_order::by_bounds::write_tried` meets its contract. The loop's invariant: the numbers of the nets below net are written.
 -- Assumes nothing.
-use Prim.Native.Nat.{ℕ}
-use mathlib.Core.Path.{_∙_}
-use lib.ListN.{length-replicate}
+use Prim.Native.Nat.{ℕ, _-_, _≤_}
+use mathlib.Core.Path.{_∙_, _≡_, refl}
+use lib.ListN.{length-replicate, length}
 use Rattle.split_order.proofs.Trying.{triable}
 use borrow.Author.Needs.{needs}
-use Prim.Native.Nat.{_-_, _≤_}
-use mathlib.Core.Path.{_≡_, refl}
 use native.Mathlib.Omega.{arith}
-use lib.ListN.{length}
 use Rattle.split_order.specs.Sorting.{KeysMade}
 use Rattle.split_order.specs.Trying.{TriedKey}
 use Rattle.split_order.proofs.Keys.{keys-none, keys-next}

@@ -1,13 +1,11 @@
 -- `split_order::by_cone::write_keys` meets its contract. The loop's invariant: the numbers of the nets below net are written.
 -- Assumes nothing.
 use mathlib.Core.List.{[], _∷_}
-use mathlib.Core.Path.{ap, _∙_}
-use Rattle.split_order.specs.Sorting.{fourOf}
+use mathlib.Core.Path.{ap, _∙_, _≡_}
+use Rattle.split_order.specs.Sorting.{fourOf, KeysMade}
 use borrow.Author.Needs.{needs}
 use Prim.Native.Nat.{_-_, _≤_}
-use mathlib.Core.Path.{_≡_}
 use native.Mathlib.Omega.{arith}
-use Rattle.split_order.specs.Sorting.{KeysMade}
 use Rattle.split_order.proofs.ByCone.{ConeKey, cones-sort}
 use Rattle.split_order.proofs.Keys.{keys-none, keys-next}
 use Rattle.split_order.proofs.by_cone.write_keys.Statement.{statement}
