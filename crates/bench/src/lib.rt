@@ -1,4 +1,6 @@
 // Bench netlists: the records of a block from its text.
+#![tactic(auto)]
+
 ghost use Rattle.std.specs.Prelude.{◌≡◌, ◌++◌, ◌*◌, ◌≤◌, length};
 ghost use Rattle.block.specs.Verdict.{verdict};
 ghost use Rattle.block.specs.Refusals.{read_checks};
@@ -13,21 +15,21 @@ mod overflow;
 mod walk;
 
 // What Bench answers: how many records there are, or the refusal.
-#[derive(Drop)]
+#[derive(Clone, Copy)]
 pub enum BenchAnswer {
     Count(u64),
     Refused(Refusal),
 }
 
 // What becomes of the lines: how many records they give, 1,024 at most, or the refusal.
-#[derive(Drop)]
+#[derive(Clone, Copy)]
 pub enum Taken {
     Records(usize),
     Refused(Refusal),
 }
 
 // What taking a line came to: its verdict, how many records it gives, 0 or 1, and whether it is a gate.
-#[derive(Drop)]
+#[derive(Clone, Copy)]
 pub struct Step {
     pub verdict: Verdict,
     pub gives: usize,
@@ -36,7 +38,7 @@ pub struct Step {
 
 // How far the lines were taken: the verdict on them, the byte and the number of the next line, how many records there are, and whether
 // one of them is a gate.
-#[derive(Drop)]
+#[derive(Clone, Copy)]
 pub struct Progress {
     pub verdict: Verdict,
     pub at: usize,
@@ -46,7 +48,7 @@ pub struct Progress {
 }
 
 // What later lines come to: their verdict, and whether one of them gives a record.
-#[derive(Drop)]
+#[derive(Clone, Copy)]
 pub struct Later {
     pub verdict: Verdict,
     pub more: bool,

@@ -1,4 +1,6 @@
 // The block file: its records, what a gate's kind decides, and the reader.
+#![tactic(auto)]
+
 ghost use Rattle.std.specs.Prelude.{◌≡◌, ◌*◌, ◌≤◌, ◌<◌, length};
 ghost use Rattle.laws.specs.Rewritten.{Rewritten};
 ghost use Rattle.block.specs.Record.{allowed};
@@ -15,7 +17,7 @@ pub use checks::{gate_in_range, in_range};
 pub use kind::{Rule, gate_rule};
 
 // A net's number: the position of its record in the file.
-#[derive(Drop)]
+#[derive(Clone, Copy)]
 pub struct Net(pub usize);
 
 impl Net {
@@ -29,14 +31,14 @@ impl Net {
 }
 
 // The peaks of a gate's pulses, in microamperes.
-#[derive(Drop)]
+#[derive(Clone, Copy)]
 pub struct Peaks {
     pub lh: usize,
     pub hl: usize,
 }
 
 // A gate as its record has it. `used` is its pin count: pins 0 to `used` - 1 are used.
-#[derive(Drop)]
+#[derive(Clone, Copy)]
 pub struct Gate {
     pub kind: usize,
     pub contact: usize,
@@ -49,14 +51,14 @@ pub struct Gate {
 }
 
 // Document 01's refusal.
-#[derive(Drop)]
+#[derive(Clone, Copy)]
 pub struct Refusal {
     pub number: u64,
     pub place: u64,
 }
 
 // What a list of checks comes to.
-#[derive(Drop)]
+#[derive(Clone, Copy)]
 pub enum Verdict {
     Accepted,
     Refused(Refusal),
@@ -81,7 +83,7 @@ impl Verdict {
 }
 
 // What Read answers.
-#[derive(Drop)]
+#[derive(Clone, Copy)]
 pub enum ReadAnswer {
     Counts { nets: u64, inputs: u64 },
     Refused(Refusal),

@@ -6,7 +6,7 @@ ghost use Rattle.block.specs.View.{GateRead, InView};
 use super::{Gate, Net, record};
 
 // Document 01's block view: the lent record slice and the net count.
-#[derive(Drop)]
+#[derive(Clone, Copy)]
 pub struct BlockView<'a> {
     pub records: &'a [u8],
     pub nets: usize,

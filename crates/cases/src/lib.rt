@@ -1,4 +1,6 @@
 // Cases of the search: their sets, their records in the case store, and the choice of the input to split.
+#![tactic(auto)]
+
 ghost use Rattle.std.specs.Prelude.{◌≡◌, ◌*◌, ◌<◌};
 
 pub mod choice;
@@ -6,7 +8,7 @@ pub mod sets;
 pub mod store;
 
 // The number of a search case: the position of its record in the case store. It is never read as a net's number.
-#[derive(Drop)]
+#[derive(Clone, Copy)]
 pub struct CaseNumber(pub usize);
 
 impl CaseNumber {

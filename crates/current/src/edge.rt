@@ -9,7 +9,7 @@ use block::Gate;
 use excitation::{Excitation, HL, LH};
 
 // A run of ticks, from tick `first` to before tick `end`, that allow the same peak: the greater of the gate's two, or the lower.
-#[derive(Drop)]
+#[derive(Clone, Copy)]
 pub struct Run {
     pub first: usize,
     pub end: usize,

@@ -4,7 +4,7 @@ ghost use Rattle.block.specs.Limits.{peak_limit};
 ghost use Rattle.current.specs.Levels.{factor_of, level_in256ths, level_by};
 
 // Peak, rise and fall of a pulse.
-#[derive(Drop)]
+#[derive(Clone, Copy)]
 pub struct Pulse {
     pub peak: u32,
     pub rise: usize,
@@ -12,7 +12,7 @@ pub struct Pulse {
 }
 
 // The factors by which the levels of a pulse's rise and of its fall are taken.
-#[derive(Drop)]
+#[derive(Clone, Copy)]
 pub struct Factors {
     pub rising: u32,
     pub falling: u32,

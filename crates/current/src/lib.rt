@@ -1,4 +1,6 @@
 // A gate's current drawn into the sheet.
+#![tactic(auto)]
+
 mod draw;
 mod edge;
 mod gate;

@@ -1,4 +1,6 @@
 // Envelope: a ceiling on the current at each contact and tick, for every pattern of the frame.
+#![tactic(auto)]
+
 ghost use Rattle.std.specs.Prelude.{◌≡◌};
 ghost use Rattle.block.specs.Verdict.{verdict};
 ghost use Rattle.evaluation.specs.Evaluation.{Evaluable, Evaluated};

@@ -1,4 +1,6 @@
 // The program: reads a block from standard input, and prints what the search of it answers, as the crate `program` has it.
+#![tactic(auto)]
+
 ghost use Rattle.std.specs.Prelude.{◌≤◌, length};
 ghost use Rattle.estimate.specs.Reading.{Within};
 
@@ -6,7 +8,7 @@ use libc::{STDERR_FILENO, STDIN_FILENO, STDOUT_FILENO};
 use program::Text;
 
 // What reading comes to: so many bytes, or a read that failed. A failed read is not the end of the input.
-#[derive(Drop)]
+#[derive(Clone, Copy)]
 enum Input {
     Bytes(usize),
     Failed,

@@ -1,4 +1,6 @@
 // Evaluation of a block whose inputs have given sets: one engine for the envelope and the simulation.
+#![tactic(auto)]
+
 ghost use Rattle.std.specs.Prelude.{◌≡◌, ◌*◌, ◌≤◌, ◌<◌, length};
 ghost use Rattle.block.specs.Block.{last_pulse_end};
 ghost use Rattle.evaluation.specs.Evaluation.{HasRows, InputCodes, InputsMade, Evaluable, sheet_for, BlockDrawn, Evaluated};
@@ -8,7 +10,7 @@ use operation::Currents;
 use sheet::Word;
 
 // The counts of a block and the hop limit, which every evaluation of a call takes.
-#[derive(Drop)]
+#[derive(Clone, Copy)]
 pub struct Setting {
     pub nets: usize,
     pub inputs: usize,

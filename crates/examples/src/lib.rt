@@ -1,1 +1,3 @@
 // Document 01's starred examples: definitions that compute, and no code.
+#![tactic(auto)]
+

@@ -1,4 +1,6 @@
 // Excitations and uncertainty sets, joined by a constant table.
+#![tactic(auto)]
+
 ghost use Rattle.std.specs.Prelude.{◌≡◌, ◌≤◌};
 ghost use Rattle.excitation.specs.Excitation.{levels_of, excitation_of};
 ghost use Rattle.excitation.specs.UncertaintySet.{code, decode, member, single, join_sets, invert_set, held_before_set, held_after_set};
@@ -9,7 +11,7 @@ mod tables;
 use tables::{HELD_AFTER, HELD_BEFORE, JOINS};
 
 // Document 01's excitation: a level before and a level after.
-#[derive(Drop)]
+#[derive(Clone, Copy)]
 pub struct Excitation {
     pub before: bool,
     pub after: bool,
@@ -49,7 +51,7 @@ pub fn excitation_of(byte: u8) -> Excitation
 }
 
 // How a multi-pin gate joins its pins.
-#[derive(Drop)]
+#[derive(Clone, Copy)]
 pub enum Join {
     And,
     Or,
@@ -75,7 +77,7 @@ pub fn joins() -> [u8; 768]
 }
 
 // Document 01's uncertainty set, by its code as byte 18 has it. The four high bits say nothing.
-#[derive(Drop)]
+#[derive(Clone, Copy)]
 pub struct Set {
     pub code: u8,
 }

@@ -1,4 +1,6 @@
 // Fills the rows of a gate to the hop limit.
+#![tactic(auto)]
+
 ghost use Rattle.std.specs.Prelude.{◌+◌, ◌-◌, ◌≤◌, ◌<◌, ◌≡◌, length};
 ghost use Rattle.laws.specs.Settled.{SettledAfter};
 ghost use Rattle.excitation.specs.declared.Excitation.{Excitation};
@@ -12,7 +14,7 @@ use excitation::{Excitation, H, HL, L, LH};
 use parts::Part;
 
 // A gap between two runs: its first tick and how many ticks it has.
-#[derive(Drop)]
+#[derive(Clone, Copy)]
 struct Between {
     start: usize,
     size: usize,

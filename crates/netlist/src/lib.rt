@@ -1,4 +1,6 @@
 // Bench text: the line, its words and names, and the form that it has.
+#![tactic(auto)]
+
 ghost use Rattle.std.specs.Prelude.{◌≡◌, ◌≤◌, ◌<◌, length, drop};
 ghost use Rattle.netlist.specs.Lines.{content};
 ghost use Rattle.netlist.specs.Forms.{parts_of, declared, assigned, line_form};
@@ -9,21 +11,21 @@ mod pieces;
 mod words;
 
 // A name as two numbers: its first eight letters, and the next eight.
-#[derive(Drop)]
+#[derive(Clone, Copy)]
 pub struct Name {
     pub first: u64,
     pub second: u64,
 }
 
 // A word as it is read: its first sixteen letters, and how many it has, 17 standing for all that are too many.
-#[derive(Drop)]
+#[derive(Clone, Copy)]
 pub struct Word {
     pub name: Name,
     pub length: usize,
 }
 
 // What stands after a word.
-#[derive(Drop)]
+#[derive(Clone, Copy)]
 pub enum Mark {
     Equals,
     Open,
@@ -34,7 +36,7 @@ pub enum Mark {
 }
 
 // A word, the mark after it, and where the line goes on.
-#[derive(Drop)]
+#[derive(Clone, Copy)]
 pub struct Piece {
     pub word: Word,
     pub mark: Mark,
@@ -42,7 +44,7 @@ pub struct Piece {
 }
 
 // Names in brackets: whether they are right, how many, and each of them.
-#[derive(Drop)]
+#[derive(Clone, Copy)]
 pub struct Names {
     pub right: bool,
     pub used: usize,
@@ -51,7 +53,7 @@ pub struct Names {
 
 // A line as it is read: whether it is right by itself, and of a line that is, the kind of the record that it gives, as document 01
 // numbers kinds, 0 of a line that gives none, its name and its pins' names. `used` is the pin count.
-#[derive(Drop)]
+#[derive(Clone, Copy)]
 pub struct Line {
     pub right: bool,
     pub kind: usize,
@@ -61,7 +63,7 @@ pub struct Line {
 }
 
 // Where a line of a text ends, and where the next one starts.
-#[derive(Drop)]
+#[derive(Clone, Copy)]
 pub struct Span {
     pub end: usize,
     pub next: usize,

@@ -1,4 +1,6 @@
 // Numbers of the machine: the greater and the lesser of two, and widening. A function for each type.
+#![tactic(auto)]
+
 ghost use Rattle.std.specs.Prelude.{◌≡◌, ◌<◌, max, min};
 
 // The greater of two numbers.

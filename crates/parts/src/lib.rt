@@ -1,10 +1,12 @@
 // Sixty-four ticks of uncertainty sets at once: a word for each of l, h, hl and lh, a bit for each tick.
+#![tactic(auto)]
+
 mod delay;
 mod join;
 mod number;
 
 // A part of a row: the words of 64 sets.
-#[derive(Drop)]
+#[derive(Clone, Copy)]
 pub struct Part {
     pub l: u64,
     pub h: u64,

@@ -1,4 +1,6 @@
 // The program: everything between the bytes that it reads and the bytes that it prints.
+#![tactic(auto)]
+
 ghost use Rattle.std.specs.Prelude.{[], ◌∷◌, ◌++◌, ◌≡◌, ◌≤◌, length};
 ghost use Rattle.excitation.specs.Excitation.{pattern_of};
 ghost use Rattle.cases.specs.SplitOrder.{cone_order};
@@ -14,7 +16,7 @@ mod lines;
 
 // Text in a buffer of its own: the first `used` bytes. The longest that the program prints has 283: a line of at most 91, of a word of 6
 // and four numbers of 20 digits, and a line of at most 192, of 64 words of 2.
-#[derive(Drop)]
+#[derive(Clone, Copy)]
 pub struct Text {
     pub bytes: [u8; 320],
     pub used: usize,

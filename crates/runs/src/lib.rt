@@ -1,4 +1,6 @@
 // The runs of a row of 256 bits, found, counted and joined by words. A row is four words, a bit for each tick.
+#![tactic(auto)]
+
 ghost use Rattle.std.specs.Prelude.{ℕ, ◌+◌, ◌-◌, ◌*◌, ◌/◌, ◌≤◌, ◌<◌, min, not, cond, ◌&&◌, ◌≡◌, eqb, ltb, length};
 ghost use Rattle.laws.specs.Settled.{SettledAfter};
 ghost use Rattle.bits.specs.Bits.{bit_at, row_bit};

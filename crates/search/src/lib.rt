@@ -1,4 +1,6 @@
 // The best-first search: it splits the case of the greatest upper number until the ceiling is exact, near enough, or the budget spent.
+#![tactic(auto)]
+
 ghost use Rattle.std.specs.Prelude.{◌≡◌, ◌+◌, ◌*◌, ◌≤◌, length};
 ghost use Rattle.operation.specs.SplitOrder.{NetsListed};
 ghost use Rattle.evaluation.specs.Evaluation.{Evaluable};
@@ -17,7 +19,7 @@ mod run;
 mod split;
 
 // Where a split stands: how many cases there are, the place of the next child, and the drop that makes a probe the best.
-#[derive(Drop)]
+#[derive(Clone, Copy)]
 struct Step {
     cases: usize,
     next: CaseNumber,

@@ -13,7 +13,7 @@ use operation::Outcome;
 use sheet::Word;
 
 // How a run ended: its outcome, U, L, how many cases were split and how many there are.
-#[derive(Drop)]
+#[derive(Clone, Copy)]
 pub struct RunEnd {
     pub outcome: Outcome,
     pub upper: u64,

@@ -1,4 +1,6 @@
 // The sheet: its words cleared, and restored from changes, its drop and its quiet tick. Nothing here knows what draws the currents.
+#![tactic(auto)]
+
 ghost use Rattle.std.specs.Prelude.{◌≡◌, length};
 ghost use Rattle.sheet.specs.Words.{Cleared};
 

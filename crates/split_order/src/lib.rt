@@ -1,4 +1,6 @@
 // Makers of the list of inputs in the order to be split: by cone, and by the bounds of each input's children.
+#![tactic(auto)]
+
 ghost use Rattle.std.specs.Prelude.{[], ◌≡◌};
 ghost use Rattle.block.specs.declared.Verdict.TheVariants.{Refused};
 ghost use Rattle.operation.specs.SplitOrder.{order_after};
@@ -13,7 +15,7 @@ mod reach;
 mod sort;
 
 // The four numbers that an input is sorted by.
-#[derive(Drop)]
+#[derive(Clone, Copy)]
 struct Four {
     first: u64,
     second: u64,

@@ -15,7 +15,7 @@ use block::{Gate, Net};
 use parts::Part;
 
 // The greatest arrival of some nets, and the tick after which all of them stay the same.
-#[derive(Drop)]
+#[derive(Clone, Copy)]
 struct Latest {
     arrival: usize,
     last: usize,

@@ -1,4 +1,6 @@
 // Waveforms of uncertainty sets in the lent work buffer, 160 bytes a net.
+#![tactic(auto)]
+
 mod gate;
 mod input;
 mod joining;

@@ -1,4 +1,6 @@
 // The functions that C and Rust call. Each answer goes into a lent array of eight numbers.
+#![tactic(auto)]
+
 ghost use Rattle.std.specs.Prelude.{◌≡◌};
 ghost use Rattle.block.specs.Refusals.{read_of};
 ghost use Rattle.operation.specs.Numbers.{refusal_numbers, read_numbers, currents_numbers, order_numbers, outcome_number, search_numbers};

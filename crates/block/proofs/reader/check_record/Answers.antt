@@ -1,0 +1,34 @@
+-- `block::reader::check_record` meets its contract. The verdict on the fields comes first, then that on the arrival.
+-- Assumes nothing.
+use Prim.Native.Nat.{◌%◌}
+use mathlib.Core.Path.{◌≡◌, sym, ap, ◌∙◌}
+use native.Mathlib.Omega.{arith}
+use lib.ListN.{length-set}
+use borrow.Author.Rules.{rules}
+use Rattle.block.specs.Block.{arrival_from, arrival}
+use Rattle.block.proofs.Accepted.{arrival_in_time_lem}
+use Rattle.block.proofs.Verdicts.{apart}
+use Rattle.block.proofs.Records.{fields_refused, record_judged, arrived_next}
+use Rattle.block.proofs.reader.check_record.Goals as goal
+
+pub returns-in-Refused : goal.returns-in-Refused
+returns-in-Refused c =
+    let refusal = sym c.check_fields-fields.ensures ∙ c.in-Refused.is in
+    record { judged = sym (fields_refused _ _ _ refusal); sized = c.requires.1.sized; arrived = λ e. apart _ e }
+
+pub arrival-a-requires : goal.arrival-a-requires
+arrival-a-requires c = (search rules, sym c.check_fields-fields.ensures ∙ c.in_default.is)
+
+pub returns : goal.returns
+returns c =
+    let a : c.arrival-a.result ≡ arrival c.args.file.now c.args.net.0 =
+    c.arrival-a.ensures ∙ ap (λ e. arrival_from c.args.file.now e c.args.net.0) c.requires.1.arrived in
+    let judged = record_judged _ _ c.check_fields-fields.ensures a c.also.ensures in
+    record {
+      judged = judged;
+      sized = simp length-set c.requires.1.sized;
+      arrived = λ e.
+          let in_time = arrival_in_time_lem _ _ (sym judged ∙ e) in
+          let kept : c.arrival-a.result % 256 ≡ c.arrival-a.result = omega arith in
+          arrived_next _ _ _ _ (omega arith) c.requires.1.arrived (kept ∙ a);
+    }

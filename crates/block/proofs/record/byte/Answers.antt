@@ -1,0 +1,11 @@
+-- `block::record::byte` meets its contract.
+-- Assumes nothing.
+use Prim.Native.Nat.{◌+◌}
+use mathlib.Core.Path.{ap, ◌∙◌}
+use lib.ListN.{get_or}
+use borrow.Author.Rules.{rules}
+use Rattle.block.proofs.record.byte.Goals as goal
+
+pub returns : goal.returns
+returns c =
+    (c.usize_from_u8.ensures.0 ∙ ap (λ s. get_or c.args.file.now (s + c.args.k) 0) c.start-start.ensures, search rules)
