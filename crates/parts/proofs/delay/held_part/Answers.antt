@@ -1,0 +1,12 @@
+-- `parts::delay::held_part` meets its contract.
+-- Assumes nothing.
+use Rattle.excitation.proofs.Sets.{four_members}
+use Rattle.parts.specs.Parts.{set_at}
+use Rattle.excitation.specs.UncertaintySet.{decode}
+use Rattle.parts.proofs.delay.held_part.Goals as goal
+
+pub returns : goal.returns
+unfolding set_at decode
+returns c k h =
+    four_members (c.all_bits.ensures k h) (c.all_bits-2.ensures k h) (c.all_bits-3.ensures k h)
+    (c.all_bits-4.ensures k h)
