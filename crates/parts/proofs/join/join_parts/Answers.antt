@@ -3,7 +3,7 @@
 use mathlib.Core.Path.{◌≡◌}
 use native.Mathlib.Omega.{arith}
 use Rattle.parts.specs.Parts.{set_at}
-use Rattle.parts.proofs.Joins.{by-0, by-1, by_2, by-3, by_4, by-5, by-6, by-7, by_8, by-9, by-10, by-11, by-12, by-13, by-14, by-15, five_less}
+use Rattle.parts.proofs.Joins.{by-0, by-1, by_2, by-3, by_4, by-5, by-6, by-7, by_8, by-9, by-10, by-11, by-12, by-13, by-14, by-15}
 use Rattle.parts.proofs.join.join_parts.Goals as goal
 
 pub returns-in-1 : goal.returns-in-1
@@ -69,9 +69,5 @@ returns-in-15 c k =
 pub returns-in_default : goal.returns-in_default
 returns-in_default c k =
     let s = c.args in
-    let none = c.in_default.rest in
-    let below-11 = five_less 11 s.f c.requires none in
-    let below-6 = five_less 6 s.f below-11 none.0.0.0.0.0 in
-    let below-1 = five_less 1 s.f below-6 none.0.0.0.0.0.0.0.0.0.0 in
-    let e : s.f ≡ 0 = omega (arith, below-1) in
+    let e : s.f ≡ 0 = omega arith in
     cc (c.low_parts-in_default.ensures k, e, by-0 (set_at s.a k) (set_at s.b k))
