@@ -220,7 +220,7 @@ module _ (end : ℕ) where
   begins_here t n last rest again ordered high more =
       rw (inside_first t t last rest (le_refl t) ordered)
       (cases (eqb last t)
-      (λ e. let q = eqb-true last t e in rw q (first_alone t n rest again (subst (λ k. Apart (suc (suc k)) end rest) q more)))
+      (λ e. let q = eqb-true last t e in subst (λ k. runs_from t (true ∷ ticks_inside (run t k ∷ rest) (suc t) n) ≡ run t k ∷ rest) (sym q) (first_alone t n rest again (subst (λ k. Apart (suc (suc k)) end rest) q more)))
       (λ e. let q = eqb-false last t e in first_longer t n last rest again (omega arith) high more))
 
   runs_again_from : (t n : ℕ) → t + n ≡ end → Again t n
@@ -231,7 +231,7 @@ module _ (end : ℕ) where
   runs_again_from t (suc n) e rs (next {first = first} {last = last} {rest = rest} low ordered high more) =
       cases (eqb first t)
       (λ w. let q = eqb-true first t w in
-      rw q (begins_here t n last rest (runs_again_from (suc t) n (omega arith)) (omega arith) high more))
+      subst (λ k. runs_from t (ticks_inside (run k last ∷ rest) t (suc n)) ≡ run k last ∷ rest) (sym q) (begins_here t n last rest (runs_again_from (suc t) n (omega arith)) (omega arith) high more))
       (λ w. let q = eqb-false first t w in let later : suc t ≤ first = omega arith in
       let apart = next later ordered high more in
       ap (λ b. runs_from t (b ∷ ticks_inside (run first last ∷ rest) (suc t) n)) (inside_before t apart (omega arith))

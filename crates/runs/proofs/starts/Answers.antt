@@ -4,11 +4,7 @@ use borrow.Author.Rules.{rules}
 use mir.Syntax.{w64}
 use mir.Val.{Fits}
 use Rattle.runs.proofs.Begins.{starts_by_shift}
-use Rattle.runs.proofs.starts.Statement.{statement}
-use Rattle.runs.proofs.starts.Tie as tie
+use Rattle.runs.proofs.starts.Goals as goal
 
-returns : tie.Need-returns
+pub returns : goal.returns
 returns c = let fit : Fits w64 c.args.before = search rules in starts_by_shift _ _ fit.fits
-
-pub starts-spec : {M : Type 1} → statement M
-starts-spec = tie.close (tie.spec returns)
