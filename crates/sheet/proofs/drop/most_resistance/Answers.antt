@@ -1,0 +1,23 @@
+-- `sheet::drop::most_resistance` meets its contract.
+-- Assumes nothing.
+use Rattle.std.proofs.Common.{◌≡◌, ◌/◌, length, sym, refl, ◌∙◌, arith}
+use Rattle.laws.specs.Below.{max_below}
+use Rattle.laws.proofs.Below.{max_next}
+use Rattle.sheet.specs.Sums.{most_resistance}
+use Rattle.sheet.proofs.drop.most_resistance.Goals as goal
+
+pub loop-node-init : goal.loop-node-init
+unfolding max_below
+loop-node-init c = (omega arith, refl)
+
+pub loop-node-preserved : goal.loop-node-preserved
+loop-node-preserved c =
+    let loop = c.loop-node in
+    (omega arith, c.max_u64-most.ensures ∙ rw (loop.invariant.1, c.u64_from_u16-resistance.ensures.0) (sym (max_next loop.node _)))
+
+pub returns : goal.returns
+unfolding most_resistance
+returns c =
+    let loop = c.loop-node in
+    let e : loop.node ≡ length c.args.table.now / 16 = omega arith in
+    rw e at loop.invariant.1
