@@ -57,6 +57,7 @@ module _ {A : Type 0} (f : A → ℕ) where
 
   pub sum_more : {y : A} (xs : List A) → ((x : A) → Memᴰ x xs → 1 ≤ f x) → Memᴰ y xs → 2 ≤ f y → length xs < sum_over f xs
   unfolding sum_over
+  sum_more {y = y} [] each m h = elim m [ ]
   sum_more (x ∷ rest) each (Memᴰ.head e) h = omega (arith, ap f e, sum_at_least rest (λ z m. each z (Memᴰ.tail m)))
   sum_more (x ∷ rest) each (Memᴰ.tail m) h = omega (arith, each x (Memᴰ.head refl), sum_more rest (λ z m. each z (Memᴰ.tail m)) m h)
 

@@ -15,7 +15,7 @@ falling_more before (n ∷ rest) x = falling_more (put_falling n before) rest x
 put_long : (x : ℕ) (ys : List ℕ) → length (put_falling x ys) ≡ suc (length ys)
 unfolding put_falling
 put_long x [] = refl
-put_long x (y ∷ rest) = ap suc (put_long _ rest)
+put_long x (y ∷ rest) = ap suc (put_long (min x y) rest)
 
 falling_long : (before xs : List ℕ) → length (falling_with before xs) ≡ length before + length xs
 unfolding falling_with

@@ -89,6 +89,7 @@ module _ (simulated : List Excitation → ℕ) where
   pub best_probed : (new : List Case) (best : Best) {case : Case} → Memᴰ case new
       → simulated (probe case) ≤ (best_of simulated best new).lower
   unfolding best_of
+  best_probed [] best {case = case} m = elim m [ ]
   best_probed (first ∷ rest) best (Memᴰ.head e) =
       rw e (le_trans (better_probed best first) (best_grown rest (better simulated best first)))
   best_probed (first ∷ rest) best (Memᴰ.tail m) = best_probed rest (better simulated best first) m

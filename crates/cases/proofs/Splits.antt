@@ -22,6 +22,7 @@ module _ {A : Type 0} where
   member_at (x ∷ rest) (suc k) d h = Memᴰ.tail (member_at rest k d (omega arith))
 
   pub number_of : {x : A} {xs : List A} (d : A) → Memᴰ x xs → (k : ℕ) × (k < length xs) × (get_or xs k d ≡ x)
+  number_of {xs = []} d m = elim m [ ]
   number_of {xs = y ∷ rest} d (Memᴰ.head e) = (0, omega arith, sym e)
   number_of {xs = y ∷ rest} d (Memᴰ.tail m) = let n = number_of d m in (suc n.0, omega (arith, n.1), n.2)
 
@@ -38,6 +39,7 @@ module _ {A : Type 0} where
   set_new (z ∷ rest) (suc k) y h = Memᴰ.tail (set_new rest k y (omega arith))
 
   set_kept : (xs : List A) (k : ℕ) (y d : A) {x : A} → Memᴰ x xs → Memᴰ x (set xs k y) ⊎ (x ≡ get_or xs k d)
+  set_kept [] k y d m = elim m [ ]
   set_kept (z ∷ rest) zero y d (Memᴰ.head e) = inr e
   set_kept (z ∷ rest) zero y d (Memᴰ.tail m) = inl (Memᴰ.tail m)
   set_kept (z ∷ rest) (suc k) y d (Memᴰ.head e) = inl (Memᴰ.head e)

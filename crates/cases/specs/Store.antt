@@ -1,5 +1,5 @@
 -- The case store's bytes and the pattern's (document 01, "Search").
-use Rattle.std.specs.Prelude.{ℕ, zero, suc, ◌+◌, ◌*◌, ◌-◌, ◌/◌, ◌%◌, List, [], ◌∷◌, ◌++◌, map, length, get_or, drop, replicate}
+use Rattle.std.specs.Prelude.{ℕ, zero, suc, ◌*◌, ◌-◌, ◌/◌, ◌%◌, List, [], ◌∷◌, ◌++◌, map, length, get_or, drop, replicate}
 use Rattle.excitation.specs.Excitation.{l, byte_of}
 use Rattle.excitation.specs.UncertaintySet.{code}
 use Rattle.excitation.specs.declared.Excitation.{Excitation}

@@ -26,15 +26,18 @@ closed_length (here e f) = refl
 closed_length (there c) = ap suc (closed_length c)
 
 pub closed_apart : {t end : ℕ} {g : Gap} {rs rs' : List Run} → Apart t end rs → Closed g rs rs' → Apart t end rs'
+closed_apart none h = elim h [ ]
 closed_apart (next {first = first} low ordered high (next {last = last} low' ordered' high' more)) (here e f) =
     let q : first ≤ last = omega arith in next low q high' more
 closed_apart (next low ordered high more) (there c) = next low ordered high (closed_apart more c)
 
 gap_after : {t end start size : ℕ} {rs rs' : List Run} → Apart t end rs → Closed (gap start size) rs rs' → t < start
+gap_after none h = elim h [ ]
 gap_after (next low ordered high more) (here e f) = omega arith
 gap_after (next low ordered high more) (there c) = omega (arith, gap_after more c)
 
 pub gap_before : {t end start size : ℕ} {rs rs' : List Run} → Apart t end rs → Closed (gap start size) rs rs' → start + size < end
+gap_before none h = elim h [ ]
 gap_before (next low ordered high (next low' ordered' high' more)) (here e f) = omega arith
 gap_before (next low ordered high more) (there c) = gap_before more c
 
@@ -95,6 +98,7 @@ module _ (start size u first last first' last' : ℕ) (rest : List Run) (begins 
 pub inside_closed : {t end start size : ℕ} {rs rs' : List Run} (u : ℕ) → Apart t end rs → Closed (gap start size) rs rs'
     → inside u rs' ≡ (inside u rs || in_gap start size u)
 unfolding inside
+inside_closed u none h = elim h [ ]
 inside_closed u (next low ordered high (next {rest = rest} between ordered' high' more)) (here e f) =
     pair_closed _ _ u _ _ _ _ rest e f ordered between ordered'
 inside_closed {start = start} {size = size} u (next {first = first} {last = last} low ordered high more) (there {rest = rest} c) =
@@ -111,6 +115,7 @@ close_past start size first last (run first' last' ∷ rest) n = rw (ne_eqb (suc
 
 close_is : {t end start size : ℕ} {rs rs' : List Run} → Apart t end rs → Closed (gap start size) rs rs' → close (gap start size) rs ≡ rs'
 unfolding close
+close_is none h = elim h [ ]
 close_is {start = start} (next {last = last} low ordered high more) (here e f) = rw (eq-eqb (suc last) start (sym e), close) refl
 close_is {start = start} {size = size} (next {first = first} {last = last} {rest = rest} low ordered high more) (there c) =
     close_past start size first last rest (λ e. omega (arith, gap_after more c)) ∙ ap (λ rs. run first last ∷ rs) (close_is more c)

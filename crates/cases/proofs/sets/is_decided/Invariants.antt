@@ -1,0 +1,14 @@
+-- `cases::sets::is_decided` meets its contract.
+-- Assumes nothing.
+use Prim.Native.Nat.{◌-◌, ◌≤◌}
+use mathlib.Core.Bool.{true}
+use mathlib.Core.Path.{◌≡◌}
+use Rattle.laws.specs.Below.{all_below}
+use Rattle.cases.proofs.Codes.{decided_at}
+use Rattle.cases.proofs.sets.is_decided.Given as goal
+
+abbrev pub invariant-loop-net : goal.invariant-loop-net
+invariant-loop-net l = (l.net ≤ l.inputs) × (all_below l.net (decided_at l.codes) ≡ true)
+
+abbrev pub decreases-loop-net : goal.decreases-loop-net
+decreases-loop-net l = l.inputs - l.net
