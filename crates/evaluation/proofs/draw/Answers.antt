@@ -1,0 +1,160 @@
+-- `evaluation::draw` meets its contract. The loop's invariant: the nets passed are evaluated, and the settling tick is theirs.
+-- Assumes nothing.
+use Prim.Native.Nat.{◌<◌}
+use mathlib.Core.Path.{◌≡◌, refl, ap, sym, ◌∙◌}
+use native.Mathlib.Omega.{arith}
+use lib.ListN.{length}
+use Rattle.laws.specs.Below.{max_below}
+use Rattle.laws.proofs.Below.{max_next}
+use Rattle.excitation.proofs.Lookup.{table_long}
+use Rattle.excitation.specs.UncertaintySet.{sets_in}
+use Rattle.block.proofs.Accepted.{has_record}
+use Rattle.evaluation.specs.Evaluation.{HasRows}
+use Rattle.evaluation.proofs.Drawing.{Evaluating, next_checked, next_ready, next_arrives, next_drawable, next_evaluated, all_evaluated, inputs_evaluated}
+use Rattle.evaluation.proofs.Settling.{net_settling, settling_is, inputs_settling, next_settling}
+use Rattle.evaluation.proofs.Rows.{has_row}
+use Rattle.evaluation.proofs.draw.Goals as goal
+
+pub clear-requires : goal.clear-requires
+clear-requires c = c.requires.0.sheet_long
+
+pub make_inputs-requires : goal.make_inputs-requires
+make_inputs-requires c =
+    let pre = c.requires in
+    let g = pre.0 in (
+      omega (arith, g.accepted.whole, g.accepted.inputs_first),
+      pre.1,
+      record { whole = omega (arith, g.rows.whole, g.accepted.inputs_first); numbered = omega (arith, g.rows.numbered, g.accepted.inputs_first) },
+    )
+
+pub loop-net-init : goal.loop-net-init
+loop-net-init c =
+    let g = c.requires.0 in
+    let file = c.args.file.now in
+    let setting = c.args.setting in
+    let made = c.make_inputs.ensures in
+    let cleared = c.clear.ensures in (
+      omega arith,
+      g.accepted.inputs_first,
+      refl,
+      inputs_evaluated file setting.nets setting.inputs g.accepted setting.hops c.args.codes.now made cleared,
+      sym (inputs_settling file setting.nets setting.inputs g.accepted),
+      omega arith,
+    )
+
+pub gate-gate-requires : goal.gate-gate-requires
+gate-gate-requires c = has_record _ _ _ _ c.requires.0.accepted c.loop-net-test.true
+
+pub slice_bounds-gate_waveform-end : goal.slice_bounds-gate_waveform-end
+slice_bounds-gate_waveform-end c = sym (ap length c.joins-joins.ensures ∙ table_long)
+
+pub gate_waveform-requires : goal.gate_waveform-requires
+gate_waveform-requires c =
+    let g = c.requires.0 in
+    let l = c.loop-net in
+    let begun = c.make_inputs.ensures.long in
+    let file = c.args.file.now in
+    let setting = c.args.setting in
+    let sets = sets_in setting.inputs c.args.codes.now in
+    let here : l.net < setting.nets = c.loop-net-test.true in
+    let rows : HasRows l.work setting.nets = record { whole = omega (arith, g.rows.whole, begun, l.invariant.2); numbered = g.rows.numbered } in
+    let read = c.gate-gate.ensures in
+    (next_ready file setting.nets setting.inputs g.accepted setting.hops sets l.invariant.3 l.invariant.1 l.invariant.0 here read rows, g.some_hops, c.joins-joins.ensures)
+
+pub draw_gate-requires : goal.draw_gate-requires
+draw_gate-requires c =
+    let s = c.before in
+    let g = s.requires.0 in
+    let l = c.loop-net in
+    let begun = c.make_inputs.ensures.long in
+    let file = s.args.file.now in
+    let setting = s.args.setting in
+    let sets = sets_in setting.inputs s.args.codes.now in
+    let here : l.net < setting.nets = c.loop-net-test.true in
+    let rows : HasRows l.work setting.nets = record { whole = omega (arith, g.rows.whole, begun, l.invariant.2); numbered = g.rows.numbered } in
+    let read = c.gate-gate.ensures in
+    let made = c.gate_waveform.ensures in
+    next_drawable file setting.nets setting.inputs g.accepted setting.hops sets l.invariant.3 l.invariant.1 l.invariant.0 here read made rows
+
+pub arrival-arrival-requires : goal.arrival-arrival-requires
+arrival-arrival-requires c =
+    let s = c.before.before in
+    let g = s.requires.0 in
+    let l = c.loop-net in
+    let begun = c.make_inputs.ensures.long in
+    let file = s.args.file.now in
+    let setting = s.args.setting in
+    let sets = sets_in setting.inputs s.args.codes.now in
+    let here : l.net < setting.nets = c.loop-net-test.true in
+    let rows : HasRows l.work setting.nets = record { whole = omega (arith, g.rows.whole, begun, l.invariant.2); numbered = g.rows.numbered } in
+    let read = c.gate-gate.ensures in
+    let made = c.gate_waveform.ensures in
+    has_row l.net (record { whole = omega (arith, rows.whole, made.others.long); numbered = rows.numbered }) here
+
+pub last_pulse_end-requires : goal.last_pulse_end-requires
+last_pulse_end-requires c =
+    let s = c.before.before in
+    let g = s.requires.0 in
+    let l = c.loop-net in
+    let begun = c.make_inputs.ensures.long in
+    let file = s.args.file.now in
+    let setting = s.args.setting in
+    let sets = sets_in setting.inputs s.args.codes.now in
+    let here : l.net < setting.nets = c.loop-net-test.true in
+    let rows : HasRows l.work setting.nets = record { whole = omega (arith, g.rows.whole, begun, l.invariant.2); numbered = g.rows.numbered } in
+    let read = c.gate-gate.ensures in
+    let made = c.gate_waveform.ensures in
+    let ranges = (next_checked file setting.nets setting.inputs g.accepted setting.hops sets l.invariant.3 l.invariant.1 l.invariant.0 here read).ranges in
+    let arrives = c.arrival-arrival.ensures in
+    (omega (arith, made.arrives, arrives), omega (arith, arrives), omega (arith, ranges.rise_high), omega (arith, ranges.fall_high))
+
+pub overflow_add-net : goal.overflow_add-net
+overflow_add-net c = omega (arith, c.requires.0.accepted.few_nets, c.loop-net-test.true)
+
+pub loop-net-smaller : goal.loop-net-smaller
+loop-net-smaller c = omega (arith, c.loop-net-test.true)
+
+pub loop-net-preserved : goal.loop-net-preserved
+loop-net-preserved c =
+    let s = c.before.before in
+    let g = s.requires.0 in
+    let l = c.loop-net in
+    let begun = c.make_inputs.ensures.long in
+    let file = s.args.file.now in
+    let setting = s.args.setting in
+    let sets = sets_in setting.inputs s.args.codes.now in
+    let here : l.net < setting.nets = c.loop-net-test.true in
+    let rows : HasRows l.work setting.nets = record { whole = omega (arith, g.rows.whole, begun, l.invariant.2); numbered = g.rows.numbered } in
+    let read = c.gate-gate.ensures in
+    let made = c.gate_waveform.ensures in
+    let arrives = c.arrival-arrival.ensures.0 ∙ next_arrives file setting.nets setting.inputs g.accepted setting.hops sets l.invariant.3 l.invariant.1 l.invariant.0 here read made in
+    let flow = next_settling file setting.nets setting.inputs g.accepted l.net l.invariant.0 here read arrives c.last_pulse_end.ensures in (
+      omega arith,
+      omega arith,
+      made.others.long ∙ l.invariant.2,
+      next_evaluated file setting.nets setting.inputs g.accepted setting.hops sets l.invariant.3 l.invariant.1 l.invariant.0 here read made c.draw_gate.ensures,
+      c.max_usize-settling.ensures ∙ rw (l.invariant.4, flow.0) (sym (max_next l.net (net_settling file))),
+      omega (arith, c.max_usize-settling.ensures, flow.1),
+    )
+
+pub shape_of-sheet : goal.shape_of-sheet
+shape_of-sheet c = c.loop-net.invariant.3.long ∙ sym c.requires.0.sheet_long
+
+pub shape_of-work : goal.shape_of-work
+shape_of-work c = c.loop-net.invariant.2 ∙ c.make_inputs.ensures.long
+
+pub returns : goal.returns
+returns c =
+    let g = c.requires.0 in
+    let l = c.loop-net in
+    let file = c.args.file.now in
+    let setting = c.args.setting in
+    let e : l.net ≡ setting.nets = omega (arith, c.loop-net-test.false, l.invariant.1) in
+    let done : Evaluating file setting.hops (sets_in setting.inputs c.args.codes.now) setting.nets l.work l.sheet = rw e at l.invariant.3 in
+    record {
+      long = done.long;
+      at = all_evaluated file setting.nets setting.inputs g.accepted setting.hops _ done;
+      most = λ t h. omega (arith, done.most t h, g.accepted.few_nets);
+      settled = l.invariant.4 ∙ ap (λ n. max_below n (net_settling file)) (e ∙ sym g.accepted.net_count_lem) ∙ settling_is file;
+      soon = l.invariant.5;
+    }
