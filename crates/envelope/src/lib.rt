@@ -45,7 +45,7 @@ pub fn envelope(
     sheet: &mut [Word],
     work: &mut [u8],
 ) -> CurrentsAnswer
-    ensures { Enveloped (record { file = file.entry.now; hops = hops; table = table.now; sheet = sheet.old; work = work.old }) result sheet.new work.new }
+    ensures { Enveloped (record { file = file.now; hops = hops; table = table.now; sheet = sheet.old; work = work.old }) result sheet.new work.new }
 {
     match block::read(file) {
         ReadAnswer::Refused(r) => CurrentsAnswer::Refused(r),

@@ -74,7 +74,7 @@ fn search_block(
     store: &mut [u8],
 ) -> Found
     requires { Evaluable file.now setting sheet.old work.old × (length pattern.old ≡ 64) × NetsListed setting.inputs order.now × (ratio ≤ 10000) × (budget ≤ 10000) × (72 * (1 + 3 * budget) ≤ length store.old) }
-    ensures { BlockSearched (record { file = file.entry.now; hops = setting.hops; table = table.now; ratio = ratio; budget = budget; order = order.now; sheet = sheet.old; pattern = pattern.old; work = work.old; store = store.old }) result sheet.new pattern.new store.new }
+    ensures { BlockSearched (record { file = file.now; hops = setting.hops; table = table.now; ratio = ratio; budget = budget; order = order.now; sheet = sheet.old; pattern = pattern.old; work = work.old; store = store.old }) result sheet.new pattern.new store.new }
 {
     let threshold = make_first(file, setting, table, sheet, pattern, work, store);
     let ended = run::run(
@@ -106,7 +106,7 @@ pub fn search(
     work: &mut [u8],
     store: &mut [u8],
 ) -> SearchAnswer
-    ensures { Searched (record { file = file.entry.now; hops = hops; table = table.now; ratio = ratio; budget = budget; order = order.now; sheet = sheet.old; pattern = pattern.old; work = work.old; store = store.old }) result sheet.new pattern.new work.new store.new }
+    ensures { Searched (record { file = file.now; hops = hops; table = table.now; ratio = ratio; budget = budget; order = order.now; sheet = sheet.old; pattern = pattern.old; work = work.old; store = store.old }) result sheet.new pattern.new work.new store.new }
 {
     match block::read(file) {
         ReadAnswer::Refused(r) => SearchAnswer::Refused(r),

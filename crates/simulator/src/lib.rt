@@ -103,7 +103,7 @@ pub fn simulate(
     pattern: &[u8],
     work: &mut [u8],
 ) -> CurrentsAnswer
-    ensures { Simulated (record { file = file.entry.now; table = table.now; sheet = sheet.old; pattern = pattern.now; work = work.old }) result sheet.new work.new }
+    ensures { Simulated (record { file = file.now; table = table.now; sheet = sheet.old; pattern = pattern.now; work = work.old }) result sheet.new work.new }
 {
     match block::read(file) {
         ReadAnswer::Refused(r) => CurrentsAnswer::Refused(r),

@@ -182,7 +182,7 @@ fn check_arguments(nets: usize, hops: u64, table: usize, work: usize) -> Verdict
 
 // The second maker: the checks in order, then the list by bounds.
 pub fn bound_order(file: &[u8], hops: u64, table: &[u16], work: &mut [u8]) -> SplitOrder
-    ensures { BoundOrdered (record { file = file.entry.now; hops = hops; table = table.now; work = work.old }) result work.new }
+    ensures { BoundOrdered (record { file = file.now; hops = hops; table = table.now; work = work.old }) result work.new }
 {
     match block::read(file) {
         ReadAnswer::Refused(r) => super::refused(r),

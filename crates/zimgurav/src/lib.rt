@@ -129,7 +129,7 @@ pub extern "C" fn zimgurav_bench(
     records: &mut [u8],
     answer: &mut [u64; 8],
 )
-    ensures { BenchCalled (record { text = text.entry.now; list = list.now; records = records.old }) records.new answer.new }
+    ensures { BenchCalled (record { text = text.now; list = list.now; records = records.old }) records.new answer.new }
 {
     *answer = bench_numbers(bench::bench(text, list, records));
 }
@@ -144,7 +144,7 @@ pub extern "C" fn zimgurav_envelope(
     work: &mut [u8],
     answer: &mut [u64; 8],
 )
-    ensures { EnvelopeCalled (record { file = file.entry.now; hops = hops; table = table.now; sheet = sheet.old; work = work.old }) sheet.new work.new answer.new }
+    ensures { EnvelopeCalled (record { file = file.now; hops = hops; table = table.now; sheet = sheet.old; work = work.old }) sheet.new work.new answer.new }
 {
     *answer = currents_numbers(envelope::envelope(file, hops, table, sheet, work));
 }
@@ -159,7 +159,7 @@ pub extern "C" fn zimgurav_simulate(
     work: &mut [u8],
     answer: &mut [u64; 8],
 )
-    ensures { SimulateCalled (record { file = file.entry.now; table = table.now; sheet = sheet.old; pattern = pattern.now; work = work.old }) sheet.new work.new answer.new }
+    ensures { SimulateCalled (record { file = file.now; table = table.now; sheet = sheet.old; pattern = pattern.now; work = work.old }) sheet.new work.new answer.new }
 {
     *answer = currents_numbers(simulator::simulate(file, table, sheet, pattern, work));
 }
@@ -186,7 +186,7 @@ pub extern "C" fn zimgurav_bound_order(
     order: &mut [u8; 64],
     answer: &mut [u64; 8],
 )
-    ensures { BoundOrderCalled (record { file = file.entry.now; hops = hops; table = table.now; work = work.old }) order.old work.new order.new answer.new }
+    ensures { BoundOrderCalled (record { file = file.now; hops = hops; table = table.now; work = work.old }) order.old work.new order.new answer.new }
 {
     let made = by_bounds::bound_order(file, hops, table, work);
     let told = made.answer;
@@ -211,7 +211,7 @@ pub extern "C" fn zimgurav_search(
     store: &mut [u8],
     answer: &mut [u64; 8],
 )
-    ensures { SearchCalled (record { file = file.entry.now; hops = hops; table = table.now; ratio = ratio; budget = budget; order = order.now; sheet = sheet.old; pattern = pattern.old; work = work.old; store = store.old }) sheet.new pattern.new work.new store.new answer.new }
+    ensures { SearchCalled (record { file = file.now; hops = hops; table = table.now; ratio = ratio; budget = budget; order = order.now; sheet = sheet.old; pattern = pattern.old; work = work.old; store = store.old }) sheet.new pattern.new work.new store.new answer.new }
 {
     *answer = search_numbers(search::search(
         file, hops, table, ratio, budget, order, sheet, pattern, work, store,
