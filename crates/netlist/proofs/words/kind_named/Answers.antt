@@ -5,7 +5,7 @@ use mathlib.Core.Bool.{Bool, true, false, ◌&&◌}
 use mathlib.Core.Path.{◌≡◌, refl, ap, sym, ◌∙◌}
 use lib.Dec.{eqb}
 use lib.ListN.{length}
-use borrow.Author.Rules.{rules}
+use native.Mathlib.Omega.{arith}
 use borrow.Author.Tests.{eq-eqb, ne_eqb}
 use Rattle.laws.specs.Ascii.{ascii}
 use Rattle.laws.proofs.Tests.{and_left, and_right}
@@ -15,8 +15,7 @@ use Rattle.netlist.specs.Names.{Letters, is_letter_or_digit, lettered, same, pos
 use Rattle.netlist.specs.Forms.{kind_named}
 use Rattle.netlist.specs.Kept.{backwards, number_of, short_number}
 use Rattle.netlist.proofs.Packing.{same_is, short_same}
-use Rattle.netlist.proofs.words.kind_named.Statement.{statement}
-use Rattle.netlist.proofs.words.kind_named.Tie as tie
+use Rattle.netlist.proofs.words.kind_named.Goals as goal
 
 -- A short word: one to eight letters.
 abbrev isShort : Letters → Bool
@@ -37,83 +36,64 @@ module _ {number : ℕ} (letters : Letters) (proper : lettered letters ≡ true)
   other-told : (word : Letters) → isShort word ≡ true → (number ≡ number_of word → ⊥) → same letters word ≡ false
   other-told word short n = sym (same-told word short) ∙ ne_eqb number (number_of word) n
 
-short-requires : tie.Need-short-requires
-short-requires c κs = search rules
-
-returns : tie.Need-returns
+pub returns-in-4279876 : goal.returns-in-4279876
 unfolding kind_named position same lettered is_letter_or_digit within backwards number_of
-returns c letters e proper =
-    kind-told letters proper (c.before.short.ensures letters e proper) (ascii "AND") refl c.match.keys1
+returns-in-4279876 c letters e proper =
+    kind-told letters proper (c.short-number.ensures letters e proper) (ascii "AND") refl c.in-4279876.is
 
-returns-2 : tie.Need-returns-2
+pub returns-in-1312902724 : goal.returns-in-1312902724
 unfolding kind_named position same lettered is_letter_or_digit within backwards number_of
-returns-2 c letters e proper =
-    kind-told letters proper (c.before.short.ensures letters e proper) (ascii "NAND") refl c.match.keys2
+returns-in-1312902724 c letters e proper =
+    kind-told letters proper (c.short-number.ensures letters e proper) (ascii "NAND") refl c.in-1312902724.is
 
-returns-3 : tie.Need-returns-3
+pub returns-in-20306 : goal.returns-in-20306
 unfolding kind_named position same lettered is_letter_or_digit within backwards number_of
-returns-3 c letters e proper =
-    kind-told letters proper (c.before.short.ensures letters e proper) (ascii "OR") refl c.match.keys3
+returns-in-20306 c letters e proper =
+    kind-told letters proper (c.short-number.ensures letters e proper) (ascii "OR") refl c.in-20306.is
 
-returns-4 : tie.Need-returns-4
+pub returns-in-5132114 : goal.returns-in-5132114
 unfolding kind_named position same lettered is_letter_or_digit within backwards number_of
-returns-4 c letters e proper =
-    kind-told letters proper (c.before.short.ensures letters e proper) (ascii "NOR") refl c.match.keys4
+returns-in-5132114 c letters e proper =
+    kind-told letters proper (c.short-number.ensures letters e proper) (ascii "NOR") refl c.in-5132114.is
 
-returns-5 : tie.Need-returns-5
+pub returns-in-5787474 : goal.returns-in-5787474
 unfolding kind_named position same lettered is_letter_or_digit within backwards number_of
-returns-5 c letters e proper =
-    kind-told letters proper (c.before.short.ensures letters e proper) (ascii "XOR") refl c.match.keys5
+returns-in-5787474 c letters e proper =
+    kind-told letters proper (c.short-number.ensures letters e proper) (ascii "XOR") refl c.in-5787474.is
 
-returns-6 : tie.Need-returns-6
+pub returns-in-1481527122 : goal.returns-in-1481527122
 unfolding kind_named position same lettered is_letter_or_digit within backwards number_of
-returns-6 c letters e proper =
-    kind-told letters proper (c.before.short.ensures letters e proper) (ascii "XNOR") refl c.match.keys6
+returns-in-1481527122 c letters e proper =
+    kind-told letters proper (c.short-number.ensures letters e proper) (ascii "XNOR") refl c.in-1481527122.is
 
-returns-7 : tie.Need-returns-7
+pub returns-in-5132116 : goal.returns-in-5132116
 unfolding kind_named position same lettered is_letter_or_digit within backwards number_of
-returns-7 c letters e proper =
-    kind-told letters proper (c.before.short.ensures letters e proper) (ascii "NOT") refl c.match.keys7
+returns-in-5132116 c letters e proper =
+    kind-told letters proper (c.short-number.ensures letters e proper) (ascii "NOT") refl c.in-5132116.is
 
-returns-8 : tie.Need-returns-8
+pub returns-in-4347206 : goal.returns-in-4347206
 unfolding kind_named position same lettered is_letter_or_digit within backwards number_of
-returns-8 c letters e proper =
-    kind-told letters proper (c.before.short.ensures letters e proper) (ascii "BUF") refl c.match.keys8
+returns-in-4347206 c letters e proper =
+    kind-told letters proper (c.short-number.ensures letters e proper) (ascii "BUF") refl c.in-4347206.is
 
-returns-9 : tie.Need-returns-9
+pub returns-in-1112884806 : goal.returns-in-1112884806
 unfolding kind_named position same lettered is_letter_or_digit within backwards number_of
-returns-9 c letters e proper =
-    kind-told letters proper (c.before.short.ensures letters e proper) (ascii "BUFF") refl c.match.keys9
+returns-in-1112884806 c letters e proper =
+    kind-told letters proper (c.short-number.ensures letters e proper) (ascii "BUFF") refl c.in-1112884806.is
 
-returns-10 : tie.Need-returns-10
+pub returns-in_default : goal.returns-in_default
 unfolding kind_named position lettered is_letter_or_digit within backwards number_of
-returns-10 c letters e proper =
-    let no = other-told letters proper (c.before.short.ensures letters e proper) in
-    let rest = c.match.rest in
+returns-in_default c letters e proper =
+    let no = other-told letters proper (c.short-number.ensures letters e proper) in
     rw (
-      no (ascii "AND") refl rest.0.0.0.0.0.0.0.0.1,
-      no (ascii "NAND") refl rest.0.0.0.0.0.0.0.1,
-      no (ascii "OR") refl rest.0.0.0.0.0.0.1,
-      no (ascii "NOR") refl rest.0.0.0.0.0.1,
-      no (ascii "XOR") refl rest.0.0.0.0.1,
-      no (ascii "XNOR") refl rest.0.0.0.1,
-      no (ascii "NOT") refl rest.0.0.1,
-      no (ascii "BUF") refl rest.0.1,
-      no (ascii "BUFF") refl rest.1,
-    ) refl
-
-pub kind-named-spec : {M : Type 1} → statement M
-kind-named-spec =
-    tie.close
-    (tie.spec
-    short-requires
-    returns
-    returns-2
-    returns-3
-    returns-4
-    returns-5
-    returns-6
-    returns-7
-    returns-8
-    returns-9
-    returns-10)
+      no (ascii "AND") refl (omega arith),
+      no (ascii "NAND") refl (omega arith),
+      no (ascii "OR") refl (omega arith),
+      no (ascii "NOR") refl (omega arith),
+      no (ascii "XOR") refl (omega arith),
+      no (ascii "XNOR") refl (omega arith),
+      no (ascii "NOT") refl (omega arith),
+      no (ascii "BUF") refl (omega arith),
+      no (ascii "BUFF") refl (omega arith),
+    )
+    refl
