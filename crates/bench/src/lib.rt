@@ -107,7 +107,7 @@ fn hand_over(made: &[u8], records: &mut [u8]) -> BenchAnswer
     match block::read(made) {
         ReadAnswer::Refused(r) => BenchAnswer::Refused(r),
         ReadAnswer::Counts { nets, inputs: _ } => {
-            bytes::copy(made, records);
+            records[..made.len()].copy_from_slice(made);
             BenchAnswer::Count(nets)
         }
     }
@@ -117,7 +117,7 @@ fn hand_over(made: &[u8], records: &mut [u8]) -> BenchAnswer
 // passed.
 fn make(text: &[u8], list: &[u8], records: &mut [u8]) -> BenchAnswer
     requires { (length list.now ≡ 64) × (20480 ≤ length records.old) }
-    ensures { Handed (verdict (text_checks (record { text = text.entry.now; list = list.now; records = records.old }))) (bench_records (record { text = text.entry.now; list = list.now; records = records.old })) records.old result records.new }
+    ensures { Handed (verdict (text_checks (record { text = text.now; list = list.now; records = records.old }))) (bench_records (record { text = text.now; list = list.now; records = records.old })) records.old result records.new }
 {
     let mut firsts = [0u64; 1024];
     let mut seconds = [0u64; 1024];
@@ -130,7 +130,7 @@ fn make(text: &[u8], list: &[u8], records: &mut [u8]) -> BenchAnswer
 
 // Bench: the records of a text, each gate's delay, contact, pulse and peaks from the row of its kind.
 pub fn bench(text: &[u8], list: &[u8], records: &mut [u8]) -> BenchAnswer
-    ensures { Benched (record { text = text.entry.now; list = list.now; records = records.old }) result records.new }
+    ensures { Benched (record { text = text.now; list = list.now; records = records.old }) result records.new }
 {
     match check_given(list, records.len()) {
         Verdict::Refused(r) => BenchAnswer::Refused(r),
