@@ -24,10 +24,11 @@ use Rattle.netlist.specs.Forms.{Part, part, parts_of, mark_of, begun_by, is_empt
 use Rattle.netlist.specs.Kept.{word_kept, OfLetters, PieceRead}
 use Rattle.netlist.proofs.Packing.{first_proper, rest_proper}
 
--- The first line of a text that is not empty ends at the first byte 10.
+-- How many bytes come before the first byte 10, all of them where there is none.
 abbrev pub line_length : List ℕ → ℕ
 line_length text = position_or_len (λ byte. eqb byte 10) text
 
+-- The first line of a text that is not empty ends at the first byte 10.
 pub lines_first : (text : List ℕ) → 1 ≤ length text
     → lines_of text ≡ take (line_length text) text ∷ lines_of (drop (suc (line_length text)) text)
 unfolding lines_of

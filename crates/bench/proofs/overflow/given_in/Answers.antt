@@ -13,6 +13,7 @@ use Rattle.bench.proofs.overflow.given_in.Goals as goal
 pub loop-at-init : goal.loop-at-init
 loop-at-init c = (c.requires, search rules, λ r h. rw sub-zero at h)
 
+-- The loop goes on where a line is left and fewer lines are passed than asked for.
 pub line_at-span-requires : goal.line_at-span-requires
 line_at-span-requires c = (both_below c.loop-at.at (length c.args.text.now) c.loop-at.passed c.args.lines c.loop-at-test.true).0
 

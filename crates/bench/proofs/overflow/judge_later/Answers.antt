@@ -21,6 +21,7 @@ slice_bounds-read_line-start c = c.line_at-span.ensures.from
 pub slice_bounds-read_line-end : goal.slice_bounds-read_line-end
 slice_bounds-read_line-end c = c.line_at-span.ensures.to
 
+-- A line's number is at most one more than the byte where it starts, so it fits.
 pub overflow_add-number : goal.overflow_add-number
 overflow_add-number c = omega (arith, c.loop-at.invariant.numbered)
 

@@ -11,6 +11,7 @@ use Rattle.bench.proofs.walk.begin.Goals as goal
 pub loop-at-init : goal.loop-at-init
 loop-at-init c = (none_taken _ _ _ _ _, refl)
 
+-- The loop goes on where a line is left and there are fewer records than 1,024.
 pub line_at-span-requires : goal.line_at-span-requires
 line_at-span-requires c = (both_below c.loop-at.at (length c.args.text.now) c.loop-at.count 1024 c.loop-at-test.true).0
 
