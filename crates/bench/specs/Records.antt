@@ -1,5 +1,5 @@
 -- The records of a bench text, each from its line and its row (request 1).
-use Rattle.std.specs.Prelude.{ℕ, ◌+◌, ◌-◌, ◌/◌, ◌%◌, cond, List, [], ◌∷◌, ◌++◌, ltb, length, get_or, replicate}
+use Rattle.std.specs.Prelude.{ℕ, ◌-◌, ◌/◌, ◌%◌, cond, List, [], ◌∷◌, ◌++◌, ltb, length, get_or, replicate}
 use Rattle.block.specs.Record.{File}
 use Rattle.netlist.specs.Names.{Letters, position}
 use Rattle.netlist.specs.Forms.{Form, empty, input, output, gate, none, kind_named, given_by}

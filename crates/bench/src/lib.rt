@@ -107,7 +107,7 @@ fn hand_over(made: &[u8], records: &mut [u8]) -> BenchAnswer
     match block::read(made) {
         ReadAnswer::Refused(r) => BenchAnswer::Refused(r),
         ReadAnswer::Counts { nets, inputs: _ } => {
-            bytes::copy(made, records);
+            records[..made.len()].copy_from_slice(made);
             BenchAnswer::Count(nets)
         }
     }

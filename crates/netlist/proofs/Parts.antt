@@ -4,7 +4,7 @@ use Prim.Native.Nat.{ℕ, suc, ◌+◌, ◌≤◌, ◌<◌, min}
 use mathlib.Core.Bool.{true, false, ◌||◌, false≢true}
 use mathlib.Core.List.{List, [], ◌∷◌, ◌++◌, append-nil, append_assoc}
 use mathlib.Core.Path.{◌≡◌, refl, ap, sym, ◌∙◌}
-use native.Mathlib.Numerals.{add-one}
+use native.Mathlib.Numerals.{add-one, one-add}
 use native.Mathlib.Omega.{arith}
 use lib.Dec.{eqb}
 use lib.ListN.{length, get_or, take, drop, drop_of_length-le}
@@ -12,7 +12,7 @@ use lib.Seq.{drop-cons}
 use borrow.Author.Tests.{eqb-true, ne_eqb}
 use borrow.Table.Steps.{cases}
 use Rattle.laws.proofs.Tests.{and_both, or_cases}
-use Rattle.bytes.specs.Bytes.{index_of, index_after}
+use Rattle.std.specs.List.{position_or_len}
 use Rattle.block.specs.Refusals.{within}
 use Rattle.netlist.specs.declared.Mark.{Mark}
 use Rattle.netlist.specs.declared.Mark.TheVariants.{End}
@@ -24,14 +24,19 @@ use Rattle.netlist.specs.Forms.{Part, part, parts_of, mark_of, begun_by, is_empt
 use Rattle.netlist.specs.Kept.{word_kept, OfLetters, PieceRead}
 use Rattle.netlist.proofs.Packing.{first_proper, rest_proper}
 
+-- How many bytes come before the first byte 10, all of them where there is none.
+abbrev pub line_length : List ℕ → ℕ
+line_length text = position_or_len (λ byte. eqb byte 10) text
+
 -- The first line of a text that is not empty ends at the first byte 10.
 pub lines_first : (text : List ℕ) → 1 ≤ length text
-    → lines_of text ≡ take (index_of 10 text) text ∷ lines_of (drop (suc (index_of 10 text)) text)
-unfolding lines_of index_of index_after
+    → lines_of text ≡ take (line_length text) text ∷ lines_of (drop (suc (line_length text)) text)
+unfolding lines_of
 lines_first [] h = absurd (omega arith)
 lines_first (byte ∷ []) h = cases (eqb byte 10) (λ e. rw e refl) (λ e. rw e refl)
 lines_first (byte ∷ next ∷ rest) h =
-    cases (eqb byte 10) (λ e. rw e refl) (λ e. rw e (ap (started_by byte) (lines_first (next ∷ rest) (omega arith))))
+    cases (eqb byte 10) (λ e. rw e refl)
+    (λ e. rw e (rw one-add (ap (started_by byte) (lines_first (next ∷ rest) (omega arith)))))
 
 -- No blank is a letter.
 blank_no_letter : (byte : ℕ) → is_blank byte ≡ true → is_letter_or_digit byte ≡ false

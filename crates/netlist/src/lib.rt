@@ -1,7 +1,8 @@
 // Bench text: the line, its words and names, and the form that it has.
 #![tactic(auto)]
 
-ghost use Rattle.std.specs.Prelude.{◌≡◌, ◌≤◌, ◌<◌, length, drop};
+ghost use Rattle.std.specs.Prelude.{◌≡◌, ◌≤◌, ◌<◌, ◌==◌, length, drop};
+ghost use Rattle.std.specs.List.{position};
 ghost use Rattle.netlist.specs.Lines.{content};
 ghost use Rattle.netlist.specs.Forms.{parts_of, declared, assigned, line_form};
 ghost use Rattle.netlist.specs.Kept.{LineAt, same_name, without_pins, wrong_line, line_kept, OfLetters};
@@ -69,16 +70,29 @@ pub struct Span {
     pub next: usize,
 }
 
+// Where the first line of a text ends, if a byte 10 ends it.
+fn first_end(text: &[u8]) -> Option<usize>
+    ensures { result ≡ position (λ byte. byte == 10) text.now }
+{
+    text.iter().position(|byte| *byte == 10)
+}
+
 // The line that starts at a byte of a text.
 pub fn line_at(text: &[u8], at: usize) -> Span
     requires { at < length text.now }
     ensures { LineAt text.now at result }
 {
-    let end = bytes::scan::find(text, at, text.len(), 10);
-    if end < text.len() {
-        return Span { end, next: end + 1 };
+    let length = text.len();
+    match first_end(&text[at..]) {
+        Some(before) => {
+            let end = at + before;
+            Span { end, next: end + 1 }
+        }
+        None => Span {
+            end: length,
+            next: length,
+        },
     }
-    Span { end, next: end }
 }
 
 // Whether two names are the same.

@@ -1,0 +1,18 @@
+-- `bench::overflow::given_in` meets its contract. The loop's invariant: what is true of the lines that are left is true of all of them, as
+-- none of those passed gives the name.
+-- Assumes nothing.
+use Prim.Native.Nat.{◌-◌, ◌≤◌}
+use mathlib.Core.Bool.{Bool}
+use lib.ListN.{length, take, drop}
+use Rattle.netlist.specs.Forms.{forms_of}
+use Rattle.bench.specs.Held.{GivenIn}
+use Rattle.bench.proofs.overflow.given_in.Given as goal
+
+abbrev pub invariant-loop-at : goal.invariant-loop-at
+invariant-loop-at l =
+    (l.at ≤ length l.text) × (l.passed ≤ l.lines)
+    × ((r : Bool) → GivenIn (take (l.lines - l.passed) (forms_of (drop l.at l.text))) l.name r
+    → GivenIn (take l.lines (forms_of (drop l.from l.text))) l.name r)
+
+abbrev pub decreases-loop-at : goal.decreases-loop-at
+decreases-loop-at l = length l.text - l.at
