@@ -90,7 +90,7 @@ module _ (given : SearchArguments) {setting : Setting} (accepted : AcceptedFile 
           let Quiet-is = last ∙ quiet_of_words (final_sheet given) final_drawn in
           λ i. record { outcome = outcome_is i; upper = upper_is i; lower = lower_is i; splits = splits_is i; cases = cases_are i; quiet = Quiet-is i }
 
-      pub block_searched : BlockSearched given found sheet pattern'' store''
+      pub block_searched : BlockSearched given answered sheet pattern'' store''
       block_searched = record {
         answered = answer_is;
         sheet_written = final_drawn;
@@ -131,8 +131,8 @@ module _ (given : SearchArguments) {read : ReadAnswer} (is : read ≡ read_of gi
         → Searched given (answer.Refused r) given.sheet given.pattern given.work given.store
     argument_refused r said = searched _ _ _ _ _ (by_arguments given.file checks (Promised _ _ _ _ _) is told checked said (refl, refl, refl, refl, refl))
 
-    pub call_accepted : (found : Found) (sheet' pattern' work' store' : List ℕ) → v ≡ verdict-is.Accepted
-        → BlockSearched given found sheet' pattern' store' → Searched given (answer.Found found) sheet' pattern' work' store'
-    call_accepted found sheet' pattern' work' store' said b =
+    pub call_accepted : (answered : Found) (sheet' pattern' work' store' : List ℕ) → v ≡ verdict-is.Accepted
+        → BlockSearched given answered sheet' pattern' store' → Searched given (answer.Found answered) sheet' pattern' work' store'
+    call_accepted answered sheet' pattern' work' store' said b =
         searched _ _ _ _ _
         (by_arguments given.file checks (Promised _ _ _ _ _) is told checked said (ap answer.Found b.answered, b.sheet_written, b.pattern_written, b.store_written, tt))

@@ -1,8 +1,8 @@
 -- What the functions of the search ask and promise (for document 01, "Search"), step by step: a case made, a case split, the whole run,
 -- the sheet.
-use Rattle.std.specs.Prelude.{ℕ, ◌+◌, ◌*◌, ◌-◌, ◌≤◌, ◌<◌, max, true, false, List, ◌≡◌, length, get_or, set}
+use Rattle.std.specs.Prelude.{ℕ, ◌+◌, ◌*◌, ◌-◌, ◌≤◌, ◌<◌, max, true, false, List, ◌≡◌, length, get_or}
 use Rattle.excitation.specs.Excitation.{excitation_of, pattern_of}
-use Rattle.excitation.specs.UncertaintySet.{member, code, decode}
+use Rattle.excitation.specs.UncertaintySet.{member, decode}
 use Rattle.block.specs.Block.{frame}
 use Rattle.block.specs.Limits.{drop_limit}
 use Rattle.block.specs.Record.{File}

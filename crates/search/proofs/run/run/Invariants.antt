@@ -1,0 +1,15 @@
+-- `search::run::run` meets its contract. The loop's invariant: what is left of the search is what is left of it from the first case on.
+-- Assumes nothing.
+use Prim.Native.Nat.{◌-◌}
+use mathlib.Core.Path.{◌≡◌}
+use lib.ListN.{length}
+use Rattle.search.proofs.Running.{Reached}
+use Rattle.search.proofs.run.run.Given as goal
+
+abbrev pub invariant-loop-setting : goal.invariant-loop-setting
+invariant-loop-setting l =
+    Reached l.file l.setting l.table l.order l.ratio l.budget l.threshold l.initial.store l.initial.pattern l.cases l.best l.splits l.store l.pattern × (length l.sheet ≡ length l.initial.sheet) × (length l.work ≡ length l.initial.work)
+
+abbrev pub decreases-loop-setting : goal.decreases-loop-setting
+decreases-loop-setting l =
+    l.budget - l.splits
