@@ -90,7 +90,7 @@ module _ (given : SearchArguments) {setting : Setting} (accepted : AcceptedFile 
           let Quiet-is = last ∙ quiet_of_words (final_sheet given) final_drawn in
           λ i. record { outcome = outcome_is i; upper = upper_is i; lower = lower_is i; splits = splits_is i; cases = cases_are i; quiet = Quiet-is i }
 
-      pub block_searched : BlockSearched given answered sheet pattern'' store''
+      pub block_searched : BlockSearched given found sheet pattern'' store''
       block_searched = record {
         answered = answer_is;
         sheet_written = final_drawn;
