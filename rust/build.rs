@@ -1,4 +1,5 @@
-//! Links the proved static library, which `rt staticlib zimgurav` writes.
+//! Links the proved static library, which `rt lib` builds in `crates/zimgurav`. `./install`, `./soak` and
+//! the gate put it below `target/staticlib`.
 
 use std::env;
 use std::path::Path;

@@ -1,7 +1,6 @@
 -- What a count of bytes read says.
 -- Assumes nothing.
-use Prim.Native.Nat.{ℕ, ◌≤◌}
-use mathlib.Core.Path.{◌≡◌, subst}
+use Rattle.std.proofs.Common.{ℕ, ◌≤◌, ◌≡◌, subst}
 use Rattle.estimate.specs.Reading.{Within}
 use Rattle.estimate.specs.declared.Input.{Input}
 use Rattle.estimate.specs.declared.Input.TheVariants.{Bytes}

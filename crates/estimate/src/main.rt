@@ -4,8 +4,8 @@
 ghost use Rattle.std.specs.Prelude.{◌≤◌, length};
 ghost use Rattle.estimate.specs.Reading.{Within};
 
-use libc::{STDERR_FILENO, STDIN_FILENO, STDOUT_FILENO};
 use program::Text;
+use std::io::Read;
 
 // What reading comes to: so many bytes, or a read that failed. A failed read is not the end of the input.
 #[derive(Clone, Copy)]
@@ -15,23 +15,22 @@ enum Input {
 }
 
 // One read of standard input. No bytes are its end.
-fn read_once(room: &mut [u8]) -> Input
+fn read_once(rt: &HostRuntime, room: &mut [u8]) -> Input
     ensures { Within (length room.old) result }
 {
-    let got = libc::read(STDIN_FILENO, room);
-    if got < 0 {
-        return Input::Failed;
+    match rt.stdin().read(room) {
+        Ok(n) => Input::Bytes(n),
+        Err(_) => Input::Failed,
     }
-    Input::Bytes(io::count(got, room))
 }
 
 // Reads until the input ends, the room is full or a read fails.
-fn read_input(room: &mut [u8]) -> Input
+fn read_input(rt: &HostRuntime, room: &mut [u8]) -> Input
     ensures { Within (length room.old) result }
 {
     let mut done: usize = 0;
     while done < room.len() {
-        match read_once(&mut room[done..]) {
+        match read_once(rt, &mut room[done..]) {
             Input::Failed => {
                 return Input::Failed;
             }
@@ -47,30 +46,30 @@ fn read_input(room: &mut [u8]) -> Input
 }
 
 // Writes a text to standard output, in one piece. Whether all of it was written.
-fn write(text: Text) -> bool
+fn write(rt: &HostRuntime, text: Text) -> bool
     requires { text.used ≤ 320 }
 {
     let bytes = text.bytes;
     let used = text.used;
-    io::write_all(STDOUT_FILENO, &bytes[..used])
+    rt.write_all(&bytes[..used]).is_ok()
+}
+
+// Says on standard error what went wrong. Where that fails too, nothing is left to do.
+fn say(rt: &HostRuntime, what: &str) {
+    let _ = eprintln!(rt; "estimate: {what}");
 }
 
 // Prints what the program prints for a file.
-fn print(file: &[u8]) {
-    if !write(program::printed(file)) {
-        io::write_all(STDERR_FILENO, b"estimate: the answer cannot be written\n");
+fn print(rt: &HostRuntime, file: &[u8]) {
+    if !write(rt, program::printed(file)) {
+        say(rt, "the answer cannot be written");
     }
 }
 
-fn main() {
+fn main(rt: HostRuntime) {
     let mut room = program::room();
-    match read_input(&mut room) {
-        Input::Failed => {
-            io::write_all(
-                STDERR_FILENO,
-                b"estimate: standard input cannot be read; no answer\n",
-            );
-        }
-        Input::Bytes(n) => print(&room[..n]),
+    match read_input(&rt, &mut room) {
+        Input::Failed => say(&rt, "standard input cannot be read; no answer"),
+        Input::Bytes(n) => print(&rt, &room[..n]),
     }
 }

@@ -10,7 +10,7 @@
 use std::collections::{BTreeMap, BTreeSet};
 use std::path::Path;
 
-use check::repository::{declares, files, text};
+use check::repository::{crates, declares, files, text};
 
 /// The crates of the search above `cases`.
 const SEARCH: [&str; 3] = ["bounds", "split_order", "search"];
@@ -39,17 +39,17 @@ struct Named {
 const CITED: [Named; 11] = [
     Named {
         module: "evaluation.specs.Evaluation",
-        names: &["simulatedSheet", "envelopeSheet"],
+        names: &["simulated_sheet", "envelope_sheet"],
         why: "The sheets of Simulate's and Envelope's promises, whose drops the search is over.",
     },
     Named {
         module: "evaluation.specs.Evaluation",
-        names: &["Evaluable", "HasRows", "InputCodes", "sheetFor", "Evaluated"],
+        names: &["Evaluable", "HasRows", "InputCodes", "sheet_for", "Evaluated"],
         why: "What the contract of `evaluate` names: what it is given and what it gives.",
     },
     Named {
         module: "evaluation.specs.Evaluation",
-        names: &["currentsOf"],
+        names: &["currents_of"],
         why: "The drop and the quiet tick of Simulate's answer, which the agreement is about.",
     },
     Named {
@@ -59,7 +59,7 @@ const CITED: [Named; 11] = [
     },
     Named {
         module: "evaluation.proofs.Given",
-        names: &["evaluable-kept"],
+        names: &["evaluable_kept"],
         why: "The law that one evaluation may follow another while the buffers keep their lengths.",
     },
     Named {
@@ -69,12 +69,12 @@ const CITED: [Named; 11] = [
     },
     Named {
         module: "simulator.specs.Simulate",
-        names: &["SimulateArguments", "Simulated", "patternSheet", "givenSheet"],
+        names: &["SimulateArguments", "Simulated", "pattern_sheet", "given_sheet"],
         why: "Simulate's promise, which the agreement is about, its arguments, and the sheet that it names.",
     },
     Named {
         module: "simulator.specs.Simulate",
-        names: &["sizeChecks", "simulateVerdict"],
+        names: &["size_checks", "simulate_verdict"],
         why: "Simulate's checks: the agreement says that it accepts the pattern handed over.",
     },
     Named {
@@ -98,17 +98,17 @@ const CITED: [Named; 11] = [
 const ABBREVIATIONS: [(&[&str], &str); 3] = [
     (
         &[
-            "simulatedSheet",
-            "envelopeSheet",
-            "sheetFor",
-            "patternSheet",
-            "givenSheet",
+            "simulated_sheet",
+            "envelope_sheet",
+            "sheet_for",
+            "pattern_sheet",
+            "given_sheet",
         ],
-        "They open to `sheetOf`, which stays shut.",
+        "They open to `sheet_of`, which stays shut.",
     ),
     (
-        &["currentsOf"],
-        "It opens to `dropOf` and `quietTick`, which stay shut.",
+        &["currents_of"],
+        "It opens to `drop_of` and `quiet_tick`, which stay shut.",
     ),
     (
         &["SinglesEvaluated"],
@@ -120,42 +120,42 @@ const ABBREVIATIONS: [(&[&str], &str); 3] = [
 const UNFOLDED: [Named; 8] = [
     Named {
         module: "simulator.specs.Simulate",
-        names: &["sizeChecks", "simulateVerdict"],
+        names: &["size_checks", "simulate_verdict"],
         why: "Simulate's checks; none of them says what a simulation is.",
     },
     Named {
         module: "operation.specs.Pattern",
-        names: &["byteAllowed"],
+        names: &["byte_allowed"],
         why: "Check 16 of one byte.",
     },
     Named {
         module: "block.specs.Refusals",
-        names: &["readOf"],
+        names: &["read_of"],
         why: "The verdict on a file.",
     },
     Named {
         module: "operation.specs.SplitOrder",
-        names: &["listBytes"],
+        names: &["list_bytes"],
         why: "The bytes that a maker returns its list in.",
     },
     Named {
         module: "block.specs.Block",
-        names: &["coneSize", "fedFrom", "feeds"],
+        names: &["cone_size", "fed_from", "feeds"],
         why: "The fan-out cone of an input, which the first maker counts; it knows gates and pins, and no current.",
     },
     Named {
         module: "block.specs.View",
-        names: &["gateOf"],
+        names: &["gate_of"],
         why: "The gate that a record holds, by whose pins a cone goes.",
     },
     Named {
         module: "bits.specs.Bits",
-        names: &["bitAt"],
+        names: &["bit_at"],
         why: "The bits of the words that cones are counted by.",
     },
     Named {
         module: "excitation.specs.Excitation",
-        names: &["byteOf"],
+        names: &["byte_of"],
         why: "The byte of a pattern that stands for an excitation.",
     },
 ];
@@ -174,13 +174,9 @@ fn in_name(character: char) -> bool {
     !character.is_whitespace() && !"(){};,.:&<>\"".contains(character)
 }
 
-/// The module of a `Rattle·crate.specs.Module` path, as `crate.specs.Module`, without what follows the
-/// crate's own name where a crate cites itself.
+/// The module of a `Rattle.crate.specs.Module` path, as `crate.specs.Module`.
 fn module_of(path: &str) -> String {
-    let path = path.trim_start_matches("Rattle·");
-    let (name, rest) = path.split_once('.').unwrap_or((path, ""));
-    let name = name.split('·').next().unwrap_or(name);
-    format!("{name}.{rest}")
+    path.trim_start_matches("Rattle.").to_string()
 }
 
 /// Every name that a text cites of our crates, with its module: by `use` lines, by whole paths, and in
@@ -188,7 +184,7 @@ fn module_of(path: &str) -> String {
 fn citations(text: &str, crates: &[&str]) -> BTreeSet<(String, String)> {
     let mut cited = BTreeSet::new();
     for line in code(text).lines() {
-        for (at, _) in line.match_indices("Rattle·") {
+        for (at, _) in line.match_indices("Rattle.") {
             let path: String = line[at..]
                 .chars()
                 .take_while(|&character| in_name(character) || character == '.')
@@ -214,18 +210,34 @@ fn citations(text: &str, crates: &[&str]) -> BTreeSet<(String, String)> {
     cited
 }
 
-/// The names of a line of code that stand behind `crate::`.
+/// The names of a line of code that stand behind `crate::`, alone or several in braces.
 fn calls(line: &str, crates: &[&str]) -> Vec<(String, String)> {
-    let places = line.match_indices("::").filter_map(|(at, _)| {
-        let before = line[..at].rsplit(|character| !in_name(character)).next()?;
-        let name: String = line[at + 2..]
-            .chars()
-            .take_while(|&each| in_name(each))
-            .collect();
-        let named = crates.contains(&before);
-        named.then(|| (format!("{before}::"), name))
-    });
-    places.collect()
+    let mut named = Vec::new();
+    for (at, _) in line.match_indices("::") {
+        let before = line[..at].rsplit(|character| !in_name(character)).next();
+        let Some(before) = before.filter(|before| crates.contains(before)) else {
+            continue;
+        };
+        let after = &line[at + 2..];
+        let names = match after.strip_prefix('{') {
+            Some(names) => {
+                names
+                    .split_once('}')
+                    .expect("braces closed on their line")
+                    .0
+            }
+            None => after
+                .split(|character| !in_name(character))
+                .next()
+                .unwrap_or(after),
+        };
+        named.extend(
+            names
+                .split(',')
+                .map(|name| (format!("{before}::"), name.trim().to_string())),
+        );
+    }
+    named
 }
 
 /// The names that a text unfolds, on `unfolding` lines and by `unfold .. in`.
@@ -249,7 +261,7 @@ fn unfolded(text: &str) -> BTreeSet<String> {
 fn origin(name: &str, text: &str, cited: &BTreeSet<(String, String)>) -> Option<String> {
     let code = code(text);
     if let Some((module, _)) = name.rsplit_once('.') {
-        if module.starts_with("Rattle·") {
+        if module.starts_with("Rattle.") {
             return Some(module_of(module));
         }
         let other_name = format!(" as {module}");
@@ -277,21 +289,6 @@ fn opened(text: &str) -> Vec<(String, String)> {
         }
     }
     opened
-}
-
-/// The crates, lowest first, each with those that it may cite.
-fn crates() -> Vec<(String, Vec<String>)> {
-    let lines = text("crates.txt");
-    let lines = lines.lines().filter(|line| !line.starts_with('#'));
-    let crates = lines.filter_map(|line| line.split_once(':'));
-    crates
-        .map(|(name, cited)| {
-            (
-                name.to_string(),
-                cited.split_whitespace().map(str::to_string).collect(),
-            )
-        })
-        .collect()
 }
 
 /// Every name of our crates that a crate cites, by the file in which it does.
@@ -420,10 +417,10 @@ fn abbreviations_show_nothing_inside() {
         }
     }
     for (module, shut) in [
-        ("current.specs.Current", "sheetOf"),
-        ("sheet.specs.Sheet", "sheetWords"),
-        ("sheet.specs.Sheet", "dropOf"),
-        ("sheet.specs.Sheet", "quietTick"),
+        ("current.specs.Current", "sheet_of"),
+        ("sheet.specs.Sheet", "sheet_words"),
+        ("sheet.specs.Sheet", "drop_of"),
+        ("sheet.specs.Sheet", "quiet_tick"),
     ] {
         assert_eq!(
             marks(module, shut).as_deref(),
@@ -437,16 +434,16 @@ fn abbreviations_show_nothing_inside() {
 #[test]
 fn a_proof_that_looks_inside_is_seen() {
     let proof = "\
-use Rattle·cases.specs.Case.{probe, decided}
-use Rattle·waveform.specs.Waveform.{gateAt, netWaveform}
-use Rattle·current.specs.Current as cases
--- unfolding sheetOf: a comment opens nothing
-pub law : (n : ℕ) → gateAt n ≡ probe n
-unfolding probe gateAt
+use Rattle.cases.specs.Case.{probe, decided}
+use Rattle.waveform.specs.Waveform.{gate_at, net_waveform}
+use Rattle.current.specs.Current as cases
+-- unfolding sheet_of: a comment opens nothing
+pub law : (n : ℕ) → gate_at n ≡ probe n
+unfolding probe gate_at
 law n = refl
 
-other : (n : ℕ) → unfold cases.sheetOf in (own n ≡ 0)
-  unfolding own Rattle·fill.specs.Fill.filled
+other : (n : ℕ) → unfold cases.sheet_of in (own n ≡ 0)
+  unfolding own Rattle.fill.specs.Fill.filled
 other n = unfold unknown in refl
 
 own : ℕ → ℕ
@@ -456,17 +453,28 @@ own : ℕ → ℕ
         opened(proof),
         [
             is("fill.specs.Fill", "filled"),
-            is("current.specs.Current", "sheetOf"),
-            is("waveform.specs.Waveform", "gateAt"),
+            is("current.specs.Current", "sheet_of"),
+            is("waveform.specs.Waveform", "gate_at"),
             is("unknown", "unknown"),
         ]
     );
     let cited = citations(proof, &[]);
     assert!(cited.contains(&is("current.specs.Current", "*")));
     assert!(cited.contains(&is("fill.specs.Fill", "filled")));
-    let code = "use block::Net; let all = fill::fill(waveform::row(1));";
+    let code = "\
+use block::Net; let all = fill::fill(waveform::row(1));
+use evaluation::{Setting, evaluate}; use runs::{self, starts};
+";
     assert_eq!(
         citations(code, &INSIDE),
-        [is("fill::", "fill"), is("waveform::", "row")].into()
+        [
+            is("evaluation::", "Setting"),
+            is("evaluation::", "evaluate"),
+            is("fill::", "fill"),
+            is("runs::", "self"),
+            is("runs::", "starts"),
+            is("waveform::", "row"),
+        ]
+        .into()
     );
 }

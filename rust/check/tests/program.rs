@@ -1,7 +1,7 @@
 //! The program: a block file on standard input, the search's answer and pattern on standard output, and a
 //! line on standard error where the one cannot be read or the other cannot be written.
 //!
-//! It is `target/bin/estimate`, which the gate builds before it runs the tests.
+//! It is `target/bin/estimate`, which the gate builds before it runs the tests, and `./run` where need be.
 
 use std::fs::{self, File};
 use std::io::{ErrorKind, Write};
@@ -27,7 +27,7 @@ fn program() -> PathBuf {
     let path = Path::new(env!("CARGO_MANIFEST_DIR")).join("../../target/bin/estimate");
     assert!(
         path.is_file(),
-        "{} is not there: `rt ci` builds it",
+        "{} is not there: `./run` builds it",
         path.display()
     );
     path

@@ -11,7 +11,7 @@ const MISSING: &str = "rt-that-nobody-has";
 #[test]
 fn missing_toolchain() {
     let ended = Command::new(repository::root().join(".ci/up-to-date"))
-        .args(["target/nowhere/libzimgurav.a", MISSING, "staticlib"])
+        .args(["target/nowhere/libzimgurav.a", "zimgurav", MISSING, "lib"])
         .output()
         .expect("a script");
     let error = String::from_utf8(ended.stderr).expect("text");

@@ -72,13 +72,13 @@ fn a_name_that_is_nowhere_is_seen() {
     let page = "\
 | name | file | what it says |
 | `soundness`, `sound` | `envelope/proofs/Soundness.antt` | No more. |
-| `read`, `Net`, `Nets` | `block/src/lib.rt` | `readOf` (`block/specs/Refusals.antt`), `readsOf` (`block/specs/Refusals.antt`). |
+| `read`, `Net`, `Nets` | `block/src/lib.rt` | `read_of` (`block/specs/Refusals.antt`), `reads_of` (`block/specs/Refusals.antt`). |
 ";
     let (missing, names) = missing(page);
     let expected = [
         "sound in [\"envelope/proofs/Soundness.antt\"]",
         "Nets in [\"block/src/lib.rt\"]",
-        "readsOf in [\"block/specs/Refusals.antt\"]",
+        "reads_of in [\"block/specs/Refusals.antt\"]",
     ];
     assert_eq!(missing, expected);
     assert_eq!(names, 7);

@@ -3,7 +3,7 @@
 
 use std::collections::BTreeSet;
 
-use check::repository::text;
+use check::repository::crates;
 use check::trace::{code, rows, Row, PARTS};
 
 /// The headings of document 01 that say what binds us, and the change requests.
@@ -75,11 +75,8 @@ fn every_heading_and_refusal_has_its_rows() {
 /// A row of the second part has words of document 01, or says what it is a part of.
 #[test]
 fn all_public_code_has_its_row() {
-    let crates = text("crates.txt");
-    let crates = crates.lines().filter_map(|line| line.split_once(':'));
-    let code = crates
-        .flat_map(|(name, _)| code(name))
-        .filter(|code| code.public);
+    let code = crates().into_iter().flat_map(|(name, _)| code(&name));
+    let code = code.filter(|code| code.public);
     let public: BTreeSet<String> = code.map(|code| code.path).collect();
     let rows = rows(PARTS[1]);
     let cited = rows.iter().flat_map(|row| row.citations());
@@ -97,12 +94,12 @@ fn all_public_code_has_its_row() {
 #[test]
 fn a_name_that_is_nowhere_is_seen() {
     let row = sentence(
-        "def `block` `Record` `netCount`, `byteAt`, `Kind` `ruleOf` (how); law `block` `Record` `netCount`; \
+        "def `block` `Record` `net_count`, `byte_at`, `Kind` `rule_of` (how); law `block` `Record` `net_count`; \
          promise `block::record::word`, `wordy`; code `block::Net::start`, `stop`; the view: `block::View`; \
          edit `block` `kind_10_known`, `kind_11_known`; test `read.rs` `order::*`, `ranges::delay`, `order`",
     );
     let expected = [
-        "law block Record netCount",
+        "law block Record net_count",
         "promise block::record::wordy",
         "code block::Net::stop",
         "edit block kind_11_known",
