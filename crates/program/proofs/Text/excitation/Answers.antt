@@ -1,0 +1,25 @@
+-- `program::Text::excitation` meets its contract.
+-- Assumes nothing.
+use borrow.Author.Rules.{rules}
+use Rattle.excitation.specs.Excitation.{excitation_of}
+use Rattle.excitation.proofs.Bytes.{byte_other}
+use Rattle.program.specs.Program.{excitation_word}
+use Rattle.program.proofs.Text.excitation.Goals as goal
+
+pub returns-in-1 : goal.returns-in-1
+unfolding excitation_word excitation_of
+returns-in-1 c = let e = c.in-1.is in rw e (c.word.ensures, search rules)
+
+pub returns-in-2 : goal.returns-in-2
+unfolding excitation_word excitation_of
+returns-in-2 c = let e = c.in-2.is in rw e (c.word-in-2.ensures, search rules)
+
+pub returns-in-3 : goal.returns-in-3
+unfolding excitation_word excitation_of
+returns-in-3 c = let e = c.in-3.is in rw e (c.word-in-3.ensures, search rules)
+
+pub returns-in_default : goal.returns-in_default
+unfolding excitation_word
+returns-in_default c =
+    let other = c.in_default.rest in
+    rw (byte_other _ other.0.0.1 other.0.1 other.1) (c.word-in_default.ensures, search rules)

@@ -1,0 +1,11 @@
+-- `program::lines::separator` meets its contract.
+-- Assumes nothing.
+use mathlib.Core.Path.{refl}
+use borrow.Author.Tests.{lt-ltb, le-ltb}
+use Rattle.program.proofs.lines.separator.Goals as goal
+
+pub returns-then-k-n : goal.returns-then-k-n
+returns-then-k-n c = rw (lt-ltb _ _ c.if-k-n.true) refl
+
+pub returns-else-k-n : goal.returns-else-k-n
+returns-else-k-n c = rw (le-ltb _ _ c.if-k-n.false) refl

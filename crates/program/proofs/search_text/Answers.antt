@@ -1,0 +1,24 @@
+-- `program::search_text` meets its contract.
+-- Assumes nothing.
+use mathlib.Core.Path.{ap, ◌∙◌}
+use lib.ListN.{length}
+use Rattle.split_order.proofs.ByCone.{cone_order_long}
+use Rattle.program.specs.Program.{arguments_with}
+use Rattle.program.proofs.Searches.{searched_with, search_refused, search_found}
+use Rattle.program.proofs.search_text.Goals as goal
+
+pub returns-in-Refused : goal.returns-in-Refused
+unfolding arguments_with
+returns-in-Refused c =
+    let printed = c.refusal_text.ensures in
+    record {
+      is = printed.is ∙ search_refused _ (searched_with _ _ c.requires.0 c.search.ensures) c.in-Refused.is;
+      fits = printed.fits;
+    }
+
+pub returns-in-Found : goal.returns-in-Found
+unfolding arguments_with
+returns-in-Found c =
+    let first = c.found_line in
+    search_found _ (searched_with _ _ c.requires.0 c.search.ensures) (length c.args.order.now) first.result c.pattern_line.result
+    c.in-Found.is (ap length c.requires.0 ∙ cone_order_long _) first.ensures.0 c.pattern_line.ensures

@@ -1,0 +1,11 @@
+-- `zimgurav::search_numbers` meets its contract.
+-- Assumes nothing.
+use mathlib.Core.Path.{sym, ap, ◌∙◌}
+use Rattle.operation.specs.Numbers.{search_numbers}
+use Rattle.zimgurav.proofs.search_numbers.Goals as goal
+
+pub returns-in-Found : goal.returns-in-Found
+returns-in-Found c = rw c.outcome_number-number.ensures (sym (ap search_numbers c.in-Found.is))
+
+pub returns-in-Refused : goal.returns-in-Refused
+returns-in-Refused c = c.refusal_numbers.ensures ∙ sym (ap search_numbers c.in-Refused.is)
