@@ -1,6 +1,6 @@
 -- `program::found_line` meets its contract.
 -- Assumes nothing.
-use mathlib.Core.List.{◌∷◌}
+use mathlib.Core.List.{◌∷◌, []}
 use native.Mathlib.Omega.{arith}
 use Rattle.program.specs.Lines.{decimal}
 use Rattle.program.specs.Program.{outcome_word}

@@ -1,6 +1,6 @@
 -- `program::outcome_word` meets its contract.
 -- Assumes nothing.
-use mathlib.Core.List.{◌∷◌, ◌++◌}
+use mathlib.Core.List.{◌∷◌, ◌++◌, []}
 use mathlib.Core.Path.{ap, ◌∙◌}
 use native.Mathlib.Omega.{arith}
 use Rattle.laws.specs.Ascii.{ascii}

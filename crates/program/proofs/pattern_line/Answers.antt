@@ -1,6 +1,5 @@
 -- `program::pattern_line` meets its contract. The loop's invariant: the words of the inputs passed are written, in at most 3 bytes each.
 -- Assumes nothing.
-use Prim.Native.Nat.{◌-◌}
 use native.Mathlib.Omega.{arith}
 use borrow.Author.Rules.{rules}
 use Rattle.program.proofs.Patterns.{pattern_begun, pattern_next, pattern_ended}

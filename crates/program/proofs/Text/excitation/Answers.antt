@@ -21,5 +21,5 @@ returns-in-3 c = let e = c.in-3.is in rw e (c.word-in-3.ensures, search rules)
 pub returns-in_default : goal.returns-in_default
 unfolding excitation_word
 returns-in_default c =
-    let other = c.in_default.rest in
+    let other = c.in_default.in_default-own.rest in
     rw (byte_other _ other.0.0.1 other.0.1 other.1) (c.word-in_default.ensures, search rules)
