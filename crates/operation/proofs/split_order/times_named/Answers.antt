@@ -18,10 +18,10 @@ loop-k-preserved c =
     let taken = c.loop-k-test.true in
     let x = c.usize_from_u8.ensures.0 in
     elim c.if-usize_from_u8-net.branch [
-      then-usize_from_u8-net w ↦
-        (omega arith, omega (arith, inv.1, w.times-is), omega (arith, inv.2, w.times-is, times_here order net k c.usize_from_u8.result taken x w.if-usize_from_u8-net.true))
-    | else-usize_from_u8-net w ↦
-        (omega arith, omega (arith, inv.1, w.times-is), omega (arith, inv.2, w.times-is, times_other order net k c.usize_from_u8.result taken x w.if-usize_from_u8-net.false))
+      | then-usize_from_u8-net w ↦
+          (omega arith, omega (arith, inv.1, w.times-is), omega (arith, inv.2, w.times-is, times_here order net k c.usize_from_u8.result taken x w.if-usize_from_u8-net.true))
+      | else-usize_from_u8-net w ↦
+          (omega arith, omega (arith, inv.1, w.times-is), omega (arith, inv.2, w.times-is, times_other order net k c.usize_from_u8.result taken x w.if-usize_from_u8-net.false))
     ]
 
 pub returns : goal.returns

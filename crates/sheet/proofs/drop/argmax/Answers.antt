@@ -16,9 +16,9 @@ loop-i-preserved c = (
   omega arith,
   omega arith,
   elim c.if-most-here.branch [
-      then-most-here w ↦ greatest_replaced _ _ _ _ _ _ _ c.loop-i.invariant.2 refl w.if-most-here.true w.best-is w.most-is
+    | then-most-here w ↦ greatest_replaced _ _ _ _ _ _ _ c.loop-i.invariant.2 refl w.if-most-here.true w.best-is w.most-is
     | else-most-here w ↦ greatest_kept _ _ _ _ _ _ _ c.loop-i.invariant.2 refl w.if-most-here.false w.best-is w.most-is
-    ],
+  ],
 )
 
 pub returns : goal.returns
