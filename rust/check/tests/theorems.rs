@@ -14,7 +14,8 @@ fn is_path(word: &str) -> bool {
 
 /// Whether a file below `crates/` declares the name: in the code as a function or a struct.
 fn is_in(path: &str, name: &str) -> bool {
-    let code = ["fn NAME(", "struct NAME(", "struct NAME {"].map(|form| form.replace("NAME", name));
+    let code = ["fn NAME(", "fn NAME<", "struct NAME(", "struct NAME {"]
+        .map(|form| form.replace("NAME", name));
     text(format!("crates/{path}")).lines().any(|line| {
         if path.ends_with(".rt") {
             code.iter().any(|declared| line.contains(declared.as_str()))
