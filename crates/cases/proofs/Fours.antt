@@ -14,8 +14,11 @@ falling_more before (n ∷ rest) x = falling_more (put_falling n before) rest x
 
 put_long : (x : ℕ) (ys : List ℕ) → length (put_falling x ys) ≡ suc (length ys)
 unfolding put_falling
-put_long x [] = refl
-put_long x (y ∷ rest) = ap suc (put_long (min x y) rest)
+put_long x ys = go ys x
+  where
+    go : (ys : List ℕ) (x : ℕ) → length (put_falling x ys) ≡ suc (length ys)
+    go [] x = refl
+    go (y ∷ rest) x = ap suc (go rest _)
 
 falling_long : (before xs : List ℕ) → length (falling_with before xs) ≡ length before + length xs
 unfolding falling_with

@@ -165,14 +165,14 @@ found_at : (given : SearchArguments) (end : SearchEnd) (quiet : ℕ) → search_
     ≡ finding end.outcome (greatest_upper end.state.cases) end.state.best.lower end.splits (length end.state.cases) quiet
 unfolding found_by
 found_at given end quiet ends last =
-    let Quiet-is = ap (λ (e : SearchEnd). quiet_tick (sheet_over given.file given.hops e.state.cases)) ends ∙ last in
+    let quiet_is = ap (λ (e : SearchEnd). quiet_tick (sheet_over given.file given.hops e.state.cases)) ends ∙ last in
     λ i. record {
       outcome = (ends i).outcome;
       upper = greatest_upper (ends i).state.cases;
       lower = (ends i).state.best.lower;
       splits = (ends i).splits;
       cases = length (ends i).state.cases;
-      quiet = Quiet-is i;
+      quiet = quiet_is i;
     }
 
 unsplit_F : found_by (searching block_f table_f 1000 0) ≡ finding Spent 67 66 0 1 4

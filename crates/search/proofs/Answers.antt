@@ -87,8 +87,8 @@ module _ (given : SearchArguments) {setting : Setting} (accepted : AcceptedFile 
           let lower_is = lower_held ∙ ap (λ f. f.state.best.lower) end_is in
           let splits_is = ran.splits ∙ ap (λ f. f.splits) end_is in
           let cases_are = count_held ∙ ap (λ f. length f.state.cases) end_is in
-          let Quiet-is = last ∙ quiet_of_words (final_sheet given) final_drawn in
-          λ i. record { outcome = outcome_is i; upper = upper_is i; lower = lower_is i; splits = splits_is i; cases = cases_are i; quiet = Quiet-is i }
+          let quiet_is = last ∙ quiet_of_words (final_sheet given) final_drawn in
+          λ i. record { outcome = outcome_is i; upper = upper_is i; lower = lower_is i; splits = splits_is i; cases = cases_are i; quiet = quiet_is i }
 
       pub block_searched : BlockSearched given found sheet pattern'' store''
       block_searched = record {
