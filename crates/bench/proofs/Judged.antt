@@ -62,12 +62,12 @@ pub record_judged : (number : ℕ) (names : List Letters) (gates : Bool) (form :
     → v ≡ also Accepted (check 17 number (not (eqb line.kind 1 && gates))) → w ≡ also v (check 18 number (new && found))
     → w ≡ verdict (line_checks number names gates form)
 unfolding line_checks
-record_judged number names gates form line new found is right some named known-pins first second =
+record_judged number names gates form line new found is right some named known_pins first second =
     let kind : line.kind ≡ (right_kept form).kind = ap (λ l. l.kind) is in
     let one = giving form (λ e. some (kind ∙ e)) in
     let place = ap (λ k. not (eqb k 1 && gates)) kind ∙ in_place_lem gates one right in
     let names_are = names_right_lem names new found one right (λ name proper kept. named name proper (ap (λ l. l.name) is ∙ kept))
-    (λ pins proper as_many kept. known-pins pins proper (ap (λ l. l.used) is ∙ as_many) (ap (λ l. l.pins) is ∙ kept)) in
+    (λ pins proper as_many kept. known_pins pins proper (ap (λ l. l.used) is ∙ as_many) (ap (λ l. l.pins) is ∙ kept)) in
     more_by _ 18 number (more_by [] 17 number all_passed first place) second names_are
 
 -- Lines after the 1,024th record.

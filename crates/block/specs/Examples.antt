@@ -49,7 +49,7 @@ pub record BlockExamples : Type 0 where
   pub read_F : read_of block_f ≡ answer.Counts 4 2
   pub read_R : read_of block_r ≡ answer.Counts 6 3
   pub read_empty : read_of [] ≡ answer.Refused (refusal 3 0)
-  pub read-19 : read_of (replicate 19 0) ≡ answer.Refused (refusal 1 0)
+  pub read_19 : read_of (replicate 19 0) ≡ answer.Refused (refusal 1 0)
   pub read_faults : read_of two_faults ≡ answer.Refused (refusal 8 1)
   -- Contacts and peaks, arrivals, the frame and N.
   pub fields_F : (contact block_f 3 ≡ 1) × (peak_lh block_f 3 ≡ 30) × (peak_hl block_f 3 ≡ 31)

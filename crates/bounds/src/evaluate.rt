@@ -20,7 +20,8 @@ pub fn evaluate_case(
     requires { Evaluable file.now setting sheet.old work.old × (length codes.now ≡ 64) × SetCodes setting.inputs codes.now }
     ensures { CaseEvaluated file.now setting table.now codes.now result sheet.new }
 {
-    if sets::is_decided(codes, setting.inputs) {
+    let decided = sets::is_decided(codes, setting.inputs);
+    if decided {
         let simulated = simulator::evaluate_singles(file, setting, codes, table, sheet, work);
         return simulated.drop;
     }

@@ -40,7 +40,8 @@ fn own_upper(
     requires { Evaluable file.now setting sheet.old work.old × (length codes.now ≡ 64) × SetCodes setting.inputs codes.now × (drop ≡ probe_drop file.now setting table.now codes.now) × (drop < drop_limit) }
     ensures { (result ≡ upper_of file.now setting table.now codes.now) × (result < drop_limit) }
 {
-    if sets::is_decided(codes, setting.inputs) {
+    let decided = sets::is_decided(codes, setting.inputs);
+    if decided {
         return drop;
     }
     let currents = evaluation::evaluate(file, setting, codes, table, sheet, work);

@@ -15,7 +15,8 @@ pub fn choose(codes: &[u8], inputs: usize, order: &[u8]) -> Net
     let mut k: usize = 0;
     while k < inputs {
         let net = numbers::usize_from_u8(order[k]);
-        if sets::is_undecided(codes[net]) {
+        let undecided = sets::is_undecided(codes[net]);
+        if undecided {
             return Net(net);
         }
         k += 1;

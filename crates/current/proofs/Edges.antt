@@ -37,24 +37,24 @@ module _ {gate : Gate} (fields : PulseFields gate) where
         fall_high = (let fall = ranges.fall_high in omega arith);
       }
 
-  peak_high : (is_Greater : Bool) → peak_of gate is_Greater < peak_limit
+  peak_high : (is_greater : Bool) → peak_of gate is_greater < peak_limit
   unfolding peak_of
   peak_high true = let lh_high = fields.fits.peak_lh_high in let hl_high = fields.fits.peak_hl_high in omega arith
   peak_high false = let lh_high = fields.fits.peak_lh_high in let hl_high = fields.fits.peak_hl_high in omega arith
 
-  pub in_range : (is_Greater : Bool) → InRange (peak_of gate is_Greater) gate.rise gate.fall
-  in_range is_Greater = range_of (peak_of gate is_Greater) (peak_high is_Greater)
+  pub in_range : (is_greater : Bool) → InRange (peak_of gate is_greater) gate.rise gate.fall
+  in_range is_greater = range_of (peak_of gate is_greater) (peak_high is_greater)
 
-  pub factored : (is_Greater : Bool) {pulse : Pulse} {rising falling : ℕ} → pulse ≡ pulse_of gate is_Greater → rising ≡ factor_of gate.rise
+  pub factored : (is_greater : Bool) {pulse : Pulse} {rising falling : ℕ} → pulse ≡ pulse_of gate is_greater → rising ≡ factor_of gate.rise
       → falling ≡ factor_of gate.fall → Factored pulse.peak pulse.rise pulse.fall rising falling
-  factored is_Greater e rise fall = rw e (record { range = in_range is_Greater; rising_by = rise; falling_by = fall })
+  factored is_greater e rise fall = rw e (record { range = in_range is_greater; rising_by = rise; falling_by = fall })
 
   sorted : peak_of gate false ≤ peak_of gate true
   unfolding peak_of
   sorted = omega arith
 
 -- Both places leave room for a whole shape.
-pub place_low : (is_Greater : Bool) → place_of is_Greater ≤ 264
+pub place_low : (is_greater : Bool) → place_of is_greater ≤ 264
 unfolding place_of
 place_low true = omega arith
 place_low false = omega arith
@@ -87,12 +87,12 @@ module _ {greater lower all : List ℕ} {from first : ℕ} (ticks : TicksByPeak 
   }
 
   -- The run that starts there with the greater peak or the lower.
-  pub run_next : (is_Greater : Bool) {end : ℕ} → first < 256 → row_bit (cond is_Greater greater lower) first ≡ true → NextAt false (cond is_Greater greater lower) first end
-      → NextRun greater lower from (record { first = first; end = end; greater = is_Greater })
-  run_next is_Greater {end} in_time held until = record {
+  pub run_next : (is_greater : Bool) {end : ℕ} → first < 256 → row_bit (cond is_greater greater lower) first ≡ true → NextAt false (cond is_greater greater lower) first end
+      → NextRun greater lower from (record { first = first; end = end; greater = is_greater })
+  run_next is_greater {end} in_time held until = record {
     low = found.low;
     in_time = found.high;
-    some = λ h. run_long (cond is_Greater greater lower) first end in_time held until;
+    some = λ h. run_long (cond is_greater greater lower) first end in_time held until;
     high = until.high;
     before = before_run;
     inside = until.other;
@@ -137,8 +137,8 @@ module _ {gate : Gate} (fields : PulseFields gate) {zeros first second : List �
   pub shapes_made : (greater lower : List ℕ) → (some ≡ false → NoTick greater) → (some_lower ≡ false → NoTick lower) → ShapesMade gate greater lower second
   shapes_made greater lower none no_lower = record { long = all_long; made = made_for }
     where
-      made_for : (is_Greater : Bool) (x : ℕ) → x < 256 → row_bit (cond is_Greater greater lower) x ≡ true
-          → Shaped (peak_of gate is_Greater) gate.rise gate.fall (place_of is_Greater) second
+      made_for : (is_greater : Bool) (x : ℕ) → x < 256 → row_bit (cond is_greater greater lower) x ≡ true
+          → Shaped (peak_of gate is_greater) gate.rise gate.fall (place_of is_greater) second
       made_for true x h held = greater_shaped (tick_found some greater none x h held)
       made_for false x h held = lower_shaped (tick_found some_lower lower no_lower x h held)
 
@@ -183,8 +183,8 @@ module _ (gate : Gate) (greater lower : List ℕ) (x t : ℕ) where
       let other = edge_allowed gate (peak_of gate false) x t held in
       omega arith
 
-  peak_allowed : PulseFields gate → (row_bit lower x ≡ true → row_bit greater x ≡ false) → (is_Greater : Bool) → row_bit (cond is_Greater greater lower) x ≡ true
-      → pulse_by_rows gate greater lower x t ≡ pulse_at (peak_of gate is_Greater) gate.rise gate.fall gate.delay x t
+  peak_allowed : PulseFields gate → (row_bit lower x ≡ true → row_bit greater x ≡ false) → (is_greater : Bool) → row_bit (cond is_greater greater lower) x ≡ true
+      → pulse_by_rows gate greater lower x t ≡ pulse_at (peak_of gate is_greater) gate.rise gate.fall gate.delay x t
   peak_allowed fields apart true held = greater_allowed fields held
   peak_allowed fields apart false held = lower_allowed (apart held) held
 

@@ -22,11 +22,11 @@ use Rattle.current.specs.Rounding.{even_of, nearest}
 pub current_examples : CurrentExamples
 unfolding any_below max_below last_below sum_below count_below in_turn list_below member decode join_sets each is_input gate_of kind_of gate_value switching_tick inputs_below frame extend runs_from gaps_after gaps shorter shortest close close_first close_shortest close_while merged inside holding ticks_inside fill_ticks sets_holding filled earlier input_waveform gate_from pin_waveform gate_at gate_waveform net_waveform waveforms even_of nearest level_after pulse pulse_at edge_pulse allowed_pulse gate_current transitions_from draws_at part contact_current drop_at drop_of flows_at quiet_tick transitions_of sheet_of
 current_examples = record {
-  pulse-31 = refl;
-  pulse-7 = λ f. refl;
-  half-33 = refl;
-  envelope-0 = refl;
-  envelope-1 = refl;
+  pulse_31 = refl;
+  pulse_7 = λ f. refl;
+  half_33 = refl;
+  envelope_0 = refl;
+  envelope_1 = refl;
   both_lh = refl;
   envelope_drop_lem = refl;
   simulated_drop_lem = refl;

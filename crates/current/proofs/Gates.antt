@@ -23,14 +23,14 @@ use Rattle.current.proofs.Edges.{none_allowed}
 use Rattle.current.proofs.Transitions.{read_from}
 
 -- The edges of a gate are lh and hl, whichever has the greater peak.
-of_edges : (gate : Gate) (Q : Excitation → Type 0) → Q lh → Q hl → (is_Greater : Bool) → Q (edge_of gate is_Greater)
+of_edges : (gate : Gate) (Q : Excitation → Type 0) → Q lh → Q hl → (is_greater : Bool) → Q (edge_of gate is_greater)
 unfolding edge_of
-of_edges gate Q up down is_Greater =
+of_edges gate Q up down is_greater =
     cases (leb gate.peaks.hl gate.peaks.lh)
-    (λ b. rw b (on is_Greater up down))
-    (λ b. rw b (on is_Greater down up))
+    (λ b. rw b (on is_greater up down))
+    (λ b. rw b (on is_greater down up))
   where
-    on : (is_Greater : Bool) {a b : Excitation} → Q a → Q b → Q (cond is_Greater a b)
+    on : (is_greater : Bool) {a b : Excitation} → Q a → Q b → Q (cond is_greater a b)
     on true x y = x
     on false x y = y
 

@@ -15,14 +15,14 @@ use Rattle.current.specs.declared.level.Pulse.{Pulse}
 
 -- The edge of a gate with the greater peak, or the other one, and its peak.
 unfoldable pub edge_of : Gate → Bool → Excitation
-edge_of gate is_Greater = cond (nat_le gate.peaks.hl gate.peaks.lh) (cond is_Greater lh hl) (cond is_Greater hl lh)
+edge_of gate is_greater = cond (nat_le gate.peaks.hl gate.peaks.lh) (cond is_greater lh hl) (cond is_greater hl lh)
 
 unfoldable pub peak_of : Gate → Bool → ℕ
-peak_of gate is_Greater = cond is_Greater (max gate.peaks.lh gate.peaks.hl) (min gate.peaks.lh gate.peaks.hl)
+peak_of gate is_greater = cond is_greater (max gate.peaks.lh gate.peaks.hl) (min gate.peaks.lh gate.peaks.hl)
 
 -- The pulse of that peak, as the code has it.
 abbrev pub pulse_of : Gate → Bool → Pulse
-pulse_of gate is_Greater = record { peak = peak_of gate is_Greater; rise = gate.rise; fall = gate.fall }
+pulse_of gate is_greater = record { peak = peak_of gate is_greater; rise = gate.rise; fall = gate.fall }
 
 -- A row of 256 bits that has no tick before tick `first`.
 pub record TicksFrom (first : ℕ) (ticks : List ℕ) : Type 0 where
@@ -81,9 +81,9 @@ pub record NextRun (greater lower : List ℕ) (from : ℕ) (run : Run) : Type 0 
 
 -- Where the shape of a peak's pulse stands among the shapes; and the shapes, each made where a tick has its peak.
 unfoldable pub place_of : Bool → ℕ
-place_of is_Greater = cond is_Greater 0 264
+place_of is_greater = cond is_greater 0 264
 
 pub record ShapesMade (gate : Gate) (greater lower shapes : List ℕ) : Type 0 where
   pub long : length shapes ≡ 528
-  pub made : (is_Greater : Bool) (x : ℕ) → x < 256 → row_bit (cond is_Greater greater lower) x ≡ true
-      → Shaped (peak_of gate is_Greater) gate.rise gate.fall (place_of is_Greater) shapes
+  pub made : (is_greater : Bool) (x : ℕ) → x < 256 → row_bit (cond is_greater greater lower) x ≡ true
+      → Shaped (peak_of gate is_greater) gate.rise gate.fall (place_of is_greater) shapes

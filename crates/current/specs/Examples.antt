@@ -16,14 +16,14 @@ table_f = 2 ∷ 1 ∷ replicate 14 0
 
 pub record CurrentExamples : Type 0 where
   -- ★ P 31, r 2, f 2: 0, 16, 31, 16, 0.
-  pub pulse-31 : list_below 6 (pulse 31 2 2) ≡ 0 ∷ 16 ∷ 31 ∷ 16 ∷ 0 ∷ 0 ∷ []
+  pub pulse_31 : list_below 6 (pulse 31 2 2) ≡ 0 ∷ 16 ∷ 31 ∷ 16 ∷ 0 ∷ 0 ∷ []
   -- ★ P 7, r 3: 0, 2, 5, 7.
-  pub pulse-7 : (f : ℕ) → list_below 4 (pulse 7 3 f) ≡ 0 ∷ 2 ∷ 5 ∷ 7 ∷ []
+  pub pulse_7 : (f : ℕ) → list_below 4 (pulse 7 3 f) ≡ 0 ∷ 2 ∷ 5 ∷ 7 ∷ []
   -- ★ 33 / 2 gives 16.
-  pub half-33 : nearest 33 2 ≡ 16
+  pub half_33 : nearest 33 2 ≡ 16
   -- ★ Block F's envelopes from tick 0: 0, 20, 10, 0 and 0, 16, 47, 47, 16, 0.
-  pub envelope-0 : list_below 5 (sheet_of (envelope 10) block_f (frame block_f) 0) ≡ 0 ∷ 20 ∷ 10 ∷ 0 ∷ 0 ∷ []
-  pub envelope-1 : list_below 7 (sheet_of (envelope 10) block_f (frame block_f) 1) ≡ 0 ∷ 16 ∷ 47 ∷ 47 ∷ 16 ∷ 0 ∷ 0 ∷ []
+  pub envelope_0 : list_below 5 (sheet_of (envelope 10) block_f (frame block_f) 0) ≡ 0 ∷ 20 ∷ 10 ∷ 0 ∷ 0 ∷ []
+  pub envelope_1 : list_below 7 (sheet_of (envelope 10) block_f (frame block_f) 1) ≡ 0 ∷ 16 ∷ 47 ∷ 47 ∷ 16 ∷ 0 ∷ 0 ∷ []
   -- ★ Both lh: 0, 16, 46, 46, 15 at contact 1, of which tick 2 is 31 + 15.
   pub both_lh : list_below 6 (sheet_of simulation block_f (lh ∷ lh ∷ []) 1) ≡ 0 ∷ 16 ∷ 46 ∷ 46 ∷ 15 ∷ 0 ∷ []
   -- ★ Drop 67, and 66 with both lh.

@@ -13,7 +13,7 @@ use Rattle.block.specs.declared.ReadAnswer.{ReadAnswer}
 use Rattle.block.specs.declared.ReadAnswer.TheVariants as read_answer
 use Rattle.block.specs.declared.Refusal.{Refusal}
 use Rattle.block.specs.declared.Verdict.{Verdict}
-use Rattle.block.specs.declared.Verdict.TheVariants as verdict-is
+use Rattle.block.specs.declared.Verdict.TheVariants as verdict_is
 use Rattle.block.proofs.Fields.{within_low}
 use Rattle.block.proofs.Numbered.{Numbered, numbering}
 use Rattle.block.proofs.Verdicts.{listed, listing}
@@ -32,7 +32,7 @@ pub record ArgumentsRight (nets hops table sheet work : ℕ) : Type 0 where
   pub sheet_long : sheet ≡ 8192
   pub work_long : 160 * nets ≤ work
 
-pub arguments_right : (nets hops table sheet work : ℕ) → verdict (argument_checks nets hops table sheet work) ≡ verdict-is.Accepted
+pub arguments_right : (nets hops table sheet work : ℕ) → verdict (argument_checks nets hops table sheet work) ≡ verdict_is.Accepted
     → ArgumentsRight nets hops table sheet work
 unfolding argument_checks
 arguments_right nets hops table sheet work e = record {
@@ -46,7 +46,7 @@ arguments_numbered : (nets hops table sheet work : ℕ) → Numbered (argument_c
 unfolding argument_checks
 arguments_numbered nets hops table sheet work = search numbering depth 10
 
-pub envelope_numbered : (given : EnvelopeArguments) (r : Refusal) → envelope_verdict given ≡ verdict-is.Refused r → 1 ≤ r.number
+pub envelope_numbered : (given : EnvelopeArguments) (r : Refusal) → envelope_verdict given ≡ verdict_is.Refused r → 1 ≤ r.number
 unfolding envelope_verdict
 envelope_numbered given = operation_numbered given.file (arguments_numbered _ _ _ _ _)
 
@@ -71,10 +71,10 @@ module _ (given : EnvelopeArguments) {read : ReadAnswer} (is : read ≡ read_of 
   file_refused r told = enveloped _ _ _ (by_file given.file checks (Promised _ _ _) is told (refl, refl, refl))
 
   module _ (nets inputs : ℕ) (told : read ≡ read_answer.Counts nets inputs) {v : Verdict} (checked : v ≡ verdict (checks nets inputs)) where
-    pub argument_refused : (r : Refusal) → v ≡ verdict-is.Refused r → Enveloped given (answer.Refused r) given.sheet given.work
+    pub argument_refused : (r : Refusal) → v ≡ verdict_is.Refused r → Enveloped given (answer.Refused r) given.sheet given.work
     argument_refused r said = enveloped _ _ _ (by_arguments given.file checks (Promised _ _ _) is told checked said (refl, refl, refl))
 
-    pub call_accepted : (currents : Currents) (sheet' work' : List ℕ) → v ≡ verdict-is.Accepted
+    pub call_accepted : (currents : Currents) (sheet' work' : List ℕ) → v ≡ verdict_is.Accepted
         → Evaluated given.table (given_sheet given) currents sheet' → Enveloped given (answer.Found currents) sheet' work'
     call_accepted currents sheet' work' said e =
         enveloped _ _ _ (by_arguments given.file checks (Promised _ _ _) is told checked said (ap answer.Found e.answered, e.written, tt))

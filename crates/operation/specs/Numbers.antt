@@ -11,7 +11,7 @@ use Rattle.operation.specs.declared.OrderAnswer.TheVariants as order_answer
 use Rattle.operation.specs.declared.Outcome.{Outcome}
 use Rattle.operation.specs.declared.Outcome.TheVariants.{Exact, Within, Spent}
 use Rattle.operation.specs.declared.SearchAnswer.{SearchAnswer}
-use Rattle.operation.specs.declared.SearchAnswer.TheVariants as search_answer_lem
+use Rattle.operation.specs.declared.SearchAnswer.TheVariants as search_answer
 
 -- Eight numbers that begin with the given ones, 0 past them.
 abbrev pub eight : List ℕ → List ℕ
@@ -39,9 +39,9 @@ outcome_number Spent = 2
 
 -- Search: outcome, U, L, splits, cases and the quiet tick.
 abbrev pub search_numbers : SearchAnswer → List ℕ
-search_numbers (search_answer_lem.Found found) =
+search_numbers (search_answer.Found found) =
     eight (0 ∷ outcome_number found.outcome ∷ found.upper ∷ found.lower ∷ found.splits ∷ found.cases ∷ found.quiet ∷ [])
-search_numbers (search_answer_lem.Refused r) = refusal_numbers r
+search_numbers (search_answer.Refused r) = refusal_numbers r
 
 -- A maker of a list of inputs: how many inputs it names.
 abbrev pub order_numbers : OrderAnswer → List ℕ

@@ -129,69 +129,69 @@ low_at a b k = simp (bit_and_lem, bit_or_lem, bit_zero) (low_sets_lem (set_at a 
 
 -- The functions of two levels by their numbers.
 
-pub by-1 : (s t : UncertaintySet) → join_sets ◌&&◌ (invert_set s) (invert_set t) ≡ join_sets (numbered 1) s t
+pub by_1 : (s t : UncertaintySet) → join_sets ◌&&◌ (invert_set s) (invert_set t) ≡ join_sets (numbered 1) s t
 unfolding join_sets member each numbered bit_at
-by-1 = agreed _ _ refl
+by_1 = agreed _ _ refl
 
 pub by_2 : (s t : UncertaintySet) → join_sets ◌&&◌ (invert_set s) t ≡ join_sets (numbered 2) s t
 unfolding join_sets member each numbered bit_at
 by_2 = agreed _ _ refl
 
-pub by-3 : (s t : UncertaintySet) → invert_set (join_sets (λ x y. x) s t) ≡ join_sets (numbered 3) s t
+pub by_3 : (s t : UncertaintySet) → invert_set (join_sets (λ x y. x) s t) ≡ join_sets (numbered 3) s t
 unfolding join_sets member each numbered bit_at
-by-3 = agreed _ _ refl
+by_3 = agreed _ _ refl
 
 pub by_4 : (s t : UncertaintySet) → join_sets ◌&&◌ s (invert_set t) ≡ join_sets (numbered 4) s t
 unfolding join_sets member each numbered bit_at
 by_4 = agreed _ _ refl
 
-pub by-5 : (s t : UncertaintySet) → invert_set (join_sets (λ x y. x) t s) ≡ join_sets (numbered 5) s t
+pub by_5 : (s t : UncertaintySet) → invert_set (join_sets (λ x y. x) t s) ≡ join_sets (numbered 5) s t
 unfolding join_sets member each numbered bit_at
-by-5 = agreed _ _ refl
+by_5 = agreed _ _ refl
 
-pub by-6 : (s t : UncertaintySet) → join_sets xor s t ≡ join_sets (numbered 6) s t
+pub by_6 : (s t : UncertaintySet) → join_sets xor s t ≡ join_sets (numbered 6) s t
 unfolding join_sets member numbered bit_at xor
-by-6 = agreed _ _ refl
+by_6 = agreed _ _ refl
 
-pub by-7 : (s t : UncertaintySet) → invert_set (join_sets ◌&&◌ s t) ≡ join_sets (numbered 7) s t
+pub by_7 : (s t : UncertaintySet) → invert_set (join_sets ◌&&◌ s t) ≡ join_sets (numbered 7) s t
 unfolding join_sets member each numbered bit_at
-by-7 = agreed _ _ refl
+by_7 = agreed _ _ refl
 
 pub by_8 : (s t : UncertaintySet) → join_sets ◌&&◌ s t ≡ join_sets (numbered 8) s t
 unfolding join_sets member numbered bit_at
 by_8 = agreed _ _ refl
 
-pub by-9 : (s t : UncertaintySet) → invert_set (join_sets xor s t) ≡ join_sets (numbered 9) s t
+pub by_9 : (s t : UncertaintySet) → invert_set (join_sets xor s t) ≡ join_sets (numbered 9) s t
 unfolding join_sets member each numbered bit_at xor
-by-9 = agreed _ _ refl
+by_9 = agreed _ _ refl
 
-pub by-10 : (s t : UncertaintySet) → join_sets (λ x y. x) t s ≡ join_sets (numbered 10) s t
+pub by_10 : (s t : UncertaintySet) → join_sets (λ x y. x) t s ≡ join_sets (numbered 10) s t
 unfolding join_sets member numbered bit_at
-by-10 = agreed _ _ refl
+by_10 = agreed _ _ refl
 
-pub by-11 : (s t : UncertaintySet) → invert_set (join_sets ◌&&◌ s (invert_set t)) ≡ join_sets (numbered 11) s t
+pub by_11 : (s t : UncertaintySet) → invert_set (join_sets ◌&&◌ s (invert_set t)) ≡ join_sets (numbered 11) s t
 unfolding join_sets member each numbered bit_at
-by-11 = agreed _ _ refl
+by_11 = agreed _ _ refl
 
-pub by-12 : (s t : UncertaintySet) → join_sets (λ x y. x) s t ≡ join_sets (numbered 12) s t
+pub by_12 : (s t : UncertaintySet) → join_sets (λ x y. x) s t ≡ join_sets (numbered 12) s t
 unfolding join_sets member numbered bit_at
-by-12 = agreed _ _ refl
+by_12 = agreed _ _ refl
 
-pub by-13 : (s t : UncertaintySet) → invert_set (join_sets ◌&&◌ (invert_set s) t) ≡ join_sets (numbered 13) s t
+pub by_13 : (s t : UncertaintySet) → invert_set (join_sets ◌&&◌ (invert_set s) t) ≡ join_sets (numbered 13) s t
 unfolding join_sets member each numbered bit_at
-by-13 = agreed _ _ refl
+by_13 = agreed _ _ refl
 
-pub by-14 : (s t : UncertaintySet) → invert_set (join_sets ◌&&◌ (invert_set s) (invert_set t)) ≡ join_sets (numbered 14) s t
+pub by_14 : (s t : UncertaintySet) → invert_set (join_sets ◌&&◌ (invert_set s) (invert_set t)) ≡ join_sets (numbered 14) s t
 unfolding join_sets member each numbered bit_at
-by-14 = agreed _ _ refl
+by_14 = agreed _ _ refl
 
-pub by-15 : (s t : UncertaintySet) → invert_set (join_sets (λ x y. false) s t) ≡ join_sets (numbered 15) s t
+pub by_15 : (s t : UncertaintySet) → invert_set (join_sets (λ x y. false) s t) ≡ join_sets (numbered 15) s t
 unfolding join_sets member each numbered bit_at
-by-15 = agreed _ _ refl
+by_15 = agreed _ _ refl
 
-pub by-0 : (s t : UncertaintySet) → join_sets (λ x y. false) s t ≡ join_sets (numbered 0) s t
+pub by_0 : (s t : UncertaintySet) → join_sets (λ x y. false) s t ≡ join_sets (numbered 0) s t
 unfolding join_sets member numbered bit_at
-by-0 = agreed _ _ refl
+by_0 = agreed _ _ refl
 
 -- A number that is none of the last five below a bound. (`omega` splits at most six of these at once.)
 pub five_less : {P : Type 0} (n f : ℕ)

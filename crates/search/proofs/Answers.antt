@@ -15,7 +15,7 @@ use Rattle.block.specs.declared.ReadAnswer.{ReadAnswer}
 use Rattle.block.specs.declared.ReadAnswer.TheVariants as read_answer
 use Rattle.block.specs.declared.Refusal.{Refusal}
 use Rattle.block.specs.declared.Verdict.{Verdict}
-use Rattle.block.specs.declared.Verdict.TheVariants as verdict-is
+use Rattle.block.specs.declared.Verdict.TheVariants as verdict_is
 use Rattle.operation.specs.Operation.{buffer_after, WorkAfter}
 use Rattle.operation.specs.declared.Found.{Found}
 use Rattle.operation.specs.declared.SearchAnswer.{SearchAnswer}
@@ -127,11 +127,11 @@ module _ (given : SearchArguments) {read : ReadAnswer} (is : read ≡ read_of gi
   file_refused r told = searched _ _ _ _ _ (by_file given.file checks (Promised _ _ _ _ _) is told (refl, refl, refl, refl, refl))
 
   module _ (nets inputs : ℕ) (told : read ≡ read_answer.Counts nets inputs) {v : Verdict} (checked : v ≡ verdict (checks nets inputs)) where
-    pub argument_refused : (r : Refusal) → v ≡ verdict-is.Refused r
+    pub argument_refused : (r : Refusal) → v ≡ verdict_is.Refused r
         → Searched given (answer.Refused r) given.sheet given.pattern given.work given.store
     argument_refused r said = searched _ _ _ _ _ (by_arguments given.file checks (Promised _ _ _ _ _) is told checked said (refl, refl, refl, refl, refl))
 
-    pub call_accepted : (answered : Found) (sheet' pattern' work' store' : List ℕ) → v ≡ verdict-is.Accepted
+    pub call_accepted : (answered : Found) (sheet' pattern' work' store' : List ℕ) → v ≡ verdict_is.Accepted
         → BlockSearched given answered sheet' pattern' store' → Searched given (answer.Found answered) sheet' pattern' work' store'
     call_accepted answered sheet' pattern' work' store' said b =
         searched _ _ _ _ _

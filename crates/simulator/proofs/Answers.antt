@@ -13,7 +13,7 @@ use Rattle.block.specs.declared.ReadAnswer.{ReadAnswer}
 use Rattle.block.specs.declared.ReadAnswer.TheVariants as read_answer
 use Rattle.block.specs.declared.Refusal.{Refusal}
 use Rattle.block.specs.declared.Verdict.{Verdict}
-use Rattle.block.specs.declared.Verdict.TheVariants as verdict-is
+use Rattle.block.specs.declared.Verdict.TheVariants as verdict_is
 use Rattle.block.proofs.Numbered.{Numbered, numbered_both, numbering}
 use Rattle.block.proofs.Verdicts.{listed, listing}
 use Rattle.operation.specs.Operation.{answer_after, buffer_after, WorkAfter}
@@ -33,7 +33,7 @@ pub record SizesRight (nets table sheet pattern work : ℕ) : Type 0 where
   pub pattern_long : pattern ≡ 64
   pub work_long : 160 * nets ≤ work
 
-pub sizes_right : (nets table sheet pattern work : ℕ) → verdict (size_checks nets table sheet pattern work) ≡ verdict-is.Accepted
+pub sizes_right : (nets table sheet pattern work : ℕ) → verdict (size_checks nets table sheet pattern work) ≡ verdict_is.Accepted
     → SizesRight nets table sheet pattern work
 unfolding size_checks
 sizes_right nets table sheet pattern work e = record {
@@ -47,7 +47,7 @@ sizes_numbered : (nets table sheet pattern work : ℕ) → Numbered (size_checks
 unfolding size_checks
 sizes_numbered nets table sheet pattern work = search numbering depth 10
 
-pub simulate_numbered : (given : SimulateArguments) (r : Refusal) → simulate_verdict given ≡ verdict-is.Refused r → 1 ≤ r.number
+pub simulate_numbered : (given : SimulateArguments) (r : Refusal) → simulate_verdict given ≡ verdict_is.Refused r → 1 ≤ r.number
 unfolding simulate_verdict
 simulate_numbered given = operation_numbered given.file (numbered_both (sizes_numbered _ _ _ _ _) (bytes_numbered given.file given.pattern _))
 
@@ -74,10 +74,10 @@ module _ (given : SimulateArguments) {read : ReadAnswer} (is : read ≡ read_of 
   file_refused r told = simulated _ _ _ (by_file given.file checks (Promised _ _ _) is told (refl, refl, refl))
 
   module _ (nets inputs : ℕ) (told : read ≡ read_answer.Counts nets inputs) {v : Verdict} (checked : v ≡ verdict (checks nets inputs)) where
-    pub argument_refused : (r : Refusal) → v ≡ verdict-is.Refused r → Simulated given (answer.Refused r) given.sheet given.work
+    pub argument_refused : (r : Refusal) → v ≡ verdict_is.Refused r → Simulated given (answer.Refused r) given.sheet given.work
     argument_refused r said = simulated _ _ _ (by_arguments given.file checks (Promised _ _ _) is told checked said (refl, refl, refl))
 
-    pub call_accepted : (currents : Currents) (sheet' work' : List ℕ) → v ≡ verdict-is.Accepted
+    pub call_accepted : (currents : Currents) (sheet' work' : List ℕ) → v ≡ verdict_is.Accepted
         → Evaluated given.table (given_sheet given) currents sheet' → Simulated given (answer.Found currents) sheet' work'
     call_accepted currents sheet' work' said e =
         simulated _ _ _ (by_arguments given.file checks (Promised _ _ _) is told checked said (ap answer.Found e.answered, e.written, tt))

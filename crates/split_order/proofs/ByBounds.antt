@@ -15,7 +15,7 @@ use Rattle.block.specs.declared.ReadAnswer.{ReadAnswer}
 use Rattle.block.specs.declared.ReadAnswer.TheVariants as read_answer
 use Rattle.block.specs.declared.Refusal.{Refusal}
 use Rattle.block.specs.declared.Verdict.{Verdict}
-use Rattle.block.specs.declared.Verdict.TheVariants as verdict-is
+use Rattle.block.specs.declared.Verdict.TheVariants as verdict_is
 use Rattle.block.proofs.Fields.{within_low}
 use Rattle.block.proofs.Frames.{frame_long}
 use Rattle.block.proofs.Numbered.{Numbered, numbering}
@@ -53,7 +53,7 @@ pub record ArgumentsRight (nets hops table work : ℕ) : Type 0 where
   pub some_hops : 1 ≤ hops
   pub work_long : 160 * nets ≤ work
 
-pub arguments_right : (nets hops table work : ℕ) → verdict (bound_order_checks nets hops table work) ≡ verdict-is.Accepted → ArgumentsRight nets hops table work
+pub arguments_right : (nets hops table work : ℕ) → verdict (bound_order_checks nets hops table work) ≡ verdict_is.Accepted → ArgumentsRight nets hops table work
 unfolding bound_order_checks
 arguments_right nets hops table work e = record {
   some_hops = within_low 1 16 hops (listed _ e 11 0 _ (search listing));
@@ -65,7 +65,7 @@ arguments_numbered : (nets hops table work : ℕ) → Numbered (bound_order_chec
 unfolding bound_order_checks
 arguments_numbered nets hops table work = search numbering depth 10
 
-pub bound_order_numbered : (given : BoundOrderArguments) (r : Refusal) → bound_order_verdict given ≡ verdict-is.Refused r → 1 ≤ r.number
+pub bound_order_numbered : (given : BoundOrderArguments) (r : Refusal) → bound_order_verdict given ≡ verdict_is.Refused r → 1 ≤ r.number
 unfolding bound_order_verdict
 bound_order_numbered given = operation_numbered given.file (arguments_numbered _ _ _ _)
 
@@ -85,15 +85,15 @@ module _ (given : BoundOrderArguments) {read : ReadAnswer} (is : read ≡ read_o
   unfolding bound_order_verdict
   ordered made work' p = record { answered = p.0; kept = p.1 }
 
-  pub file_refused : {r : Refusal} {made : SplitOrder} → read ≡ read_answer.Refused r → made ≡ order_after (verdict-is.Refused r) [] → BoundOrdered given made given.work
+  pub file_refused : {r : Refusal} {made : SplitOrder} → read ≡ read_answer.Refused r → made ≡ order_after (verdict_is.Refused r) [] → BoundOrdered given made given.work
   file_refused told refused = ordered _ _ (by_file given.file checks (Promised _ _) is told (refused, refl))
 
   module _ {nets inputs : ℕ} (told : read ≡ read_answer.Counts nets inputs) {v : Verdict} (checked : v ≡ verdict (checks nets inputs)) where
-    pub argument_refused : {r : Refusal} {made : SplitOrder} → v ≡ verdict-is.Refused r → made ≡ order_after (verdict-is.Refused r) []
+    pub argument_refused : {r : Refusal} {made : SplitOrder} → v ≡ verdict_is.Refused r → made ≡ order_after (verdict_is.Refused r) []
         → BoundOrdered given made given.work
     argument_refused said refused = ordered _ _ (by_arguments given.file checks (Promised _ _) is told checked said (refused, refl))
 
-    pub list_made : {bytes work' : List ℕ} → v ≡ verdict-is.Accepted → bytes ≡ list_bytes order
+    pub list_made : {bytes work' : List ℕ} → v ≡ verdict_is.Accepted → bytes ≡ list_bytes order
         → BoundOrdered given (record { answer = answer.Inputs inputs; nets = bytes }) work'
     list_made said made =
         let n : inputs ≡ length order = sym (frame_order_long given.file given.hops given.table ∙ (file_accepted is told).input_count_lem) in

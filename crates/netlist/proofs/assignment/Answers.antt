@@ -12,21 +12,21 @@ use Rattle.netlist.proofs.Formed.{assigned_wrong, assigned_right}
 use Rattle.netlist.proofs.assignment.Goals as goal
 
 -- What follows the `=` with another mark than the opening bracket is no gate.
-no-gate : (mark : Mark) → (mark ≡ Open → ⊥) → (letters word : Letters) (rest : List Part)
+no_gate : (mark : Mark) → (mark ≡ Open → ⊥) → (letters word : Letters) (rest : List Part)
     → wrong_line ≡ line_kept (assigned letters (part word mark ∷ rest))
 unfolding assigned line_kept form_right
-no-gate Equals h letters word rest = refl
-no-gate Open h letters word rest = absurd (h refl)
-no-gate Comma h letters word rest = refl
-no-gate Close h letters word rest = refl
-no-gate Other h letters word rest = refl
-no-gate End h letters word rest = refl
+no_gate Equals h letters word rest = refl
+no_gate Open h letters word rest = absurd (h refl)
+no_gate Comma h letters word rest = refl
+no_gate Close h letters word rest = refl
+no_gate Other h letters word rest = refl
+no_gate End h letters word rest = refl
 
 pub returns-in_default : goal.returns-in_default
 returns-in_default c letters e l =
     let piece = c.read_piece-piece in
     c.wrong_line.ensures
-    ∙ no-gate piece.result.mark c.in_default.not-Open letters piece.ensures.letters piece.ensures.rest
+    ∙ no_gate piece.result.mark c.in_default.not-Open letters piece.ensures.letters piece.ensures.rest
     ∙ ap (λ parts. line_kept (assigned letters parts)) (sym piece.ensures.is)
 
 pub returns-then-names-right : goal.returns-then-names-right

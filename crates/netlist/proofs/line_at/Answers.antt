@@ -30,27 +30,27 @@ none_found place size e =
     (λ t. ltb-false place size t)
 
 -- The rest of a text from a byte on, as the range says it.
-rest-is : (text : List ℕ) (at : ℕ) → take (length text - at) (drop at text) ≡ drop at text
-rest-is text at = let size : length (drop at text) ≡ length text - at = length-drop at text in rw (← size) (take-length (drop at text))
+rest_is : (text : List ℕ) (at : ℕ) → take (length text - at) (drop at text) ≡ drop at text
+rest_is text at = let size : length (drop at text) ≡ length text - at = length-drop at text in rw (← size) (take-length (drop at text))
 
 -- The line up to where the search for its end stops, and the lines after it.
-line-is : (text : List ℕ) (at end : ℕ) → at < length text → end ≡ at + line_length (drop at text)
+line_is : (text : List ℕ) (at end : ℕ) → at < length text → end ≡ at + line_length (drop at text)
     → lines_of (drop at text) ≡ take (end - at) (drop at text) ∷ lines_of (drop (end + 1) text)
-line-is text at end h e =
+line_is text at end h e =
     let whole = drop at text in
     let k = line_length whole in
     let distance : end - at ≡ k = omega arith in
     let after : at + suc k ≡ end + 1 = omega arith in
     lines_first whole (rw length-drop (omega arith)) ∙ rw (distance, drop-drop (suc k) at text, after) refl
 
-line-end : (text : List ℕ) (at : ℕ) → at < length text → length text ≤ at + line_length (drop at text)
+line_end : (text : List ℕ) (at : ℕ) → at < length text → length text ≤ at + line_length (drop at text)
     → lines_of (drop at text) ≡ take (length text - at) (drop at text) ∷ lines_of (drop (length text) text)
-line-end text at h past =
+line_end text at h past =
     let end = at + line_length (drop at text) in
     let more : length (drop at text) ≤ end - at = omega (arith, length-drop at text) in
-    line-is text at end h refl
+    line_is text at end h refl
     ∙ rw (
-      rest-is text at,
+      rest_is text at,
       take_all _ (drop at text) more,
       drop_of_length-le text {i = end + 1} (omega arith),
       drop_of_length-le text {i = length text} (omega arith),
@@ -62,10 +62,10 @@ returns-in-Some c =
     let text = c.args.text.now in
     let at = c.args.at in
     let ends =
-    found (line_length (drop at text)) (length (drop at text)) (sym (rw (rest-is text at) at c.in-Some.ensures)) in
+    found (line_length (drop at text)) (length (drop at text)) (sym (rw (rest_is text at) at c.in-Some.ensures)) in
     let inside : c.in-Some.before < length text - at = omega (arith, ends, length-drop at text) in
     record {
-      is = line-is text at (at + c.in-Some.before) c.requires (rw ends.0 refl);
+      is = line_is text at (at + c.in-Some.before) c.requires (rw ends.0 refl);
       from = omega arith;
       to = omega arith;
       on = omega arith;
@@ -77,10 +77,10 @@ returns-in-None c =
     let text = c.args.text.now in
     let at = c.args.at in
     let ends =
-    none_found (line_length (drop at text)) (length (drop at text)) (sym (rw (rest-is text at) at c.in-None.ensures)) in
+    none_found (line_length (drop at text)) (length (drop at text)) (sym (rw (rest_is text at) at c.in-None.ensures)) in
     let past : length text ≤ at + line_length (drop at text) = omega (arith, ends, length-drop at text) in
     record {
-      is = line-end text at c.requires past;
+      is = line_end text at c.requires past;
       from = omega arith;
       to = omega arith;
       on = omega arith;

@@ -9,10 +9,10 @@ evaluate_singles-simulated-requires c =
     let pre = c.requires in
     (pre.0, case_codes pre.0.accepted.few_inputs pre.1 pre.2)
 
-pub returns-then-is_decided : goal.returns-then-is_decided
-returns-then-is_decided c =
-    case_simulated _ c.args.setting c.is_decided.ensures
-    c.if-is_decided.true c.requires.2 c.evaluate_singles-simulated.ensures
+pub returns-then-decided : goal.returns-then-decided
+returns-then-decided c =
+    case_simulated _ c.args.setting c.is_decided-decided.ensures
+    c.if-decided.true c.requires.2 c.evaluate_singles-simulated.ensures
 
 pub evaluate-enveloped-requires : goal.evaluate-enveloped-requires
 evaluate-enveloped-requires c =
@@ -21,5 +21,5 @@ evaluate-enveloped-requires c =
 
 pub returns : goal.returns
 returns c =
-    case_enveloped _ c.args.setting c.is_decided.ensures
-    c.if-is_decided.false c.evaluate-enveloped.ensures
+    case_enveloped _ c.args.setting c.is_decided-decided.ensures
+    c.if-decided.false c.evaluate-enveloped.ensures

@@ -16,12 +16,12 @@ bounds-codes-net c =
     let pre = c.requires in
     omega (arith, c.usize_from_u8-net.ensures.0, pre.1, pre.2.low _ c.loop-k-test.true)
 
-pub returns-then-is_undecided : goal.returns-then-is_undecided
-returns-then-is_undecided c =
+pub returns-then-undecided : goal.returns-then-undecided
+returns-then-undecided c =
     let pre = c.requires in
     let taken = c.loop-k-test.true in
     let net = c.usize_from_u8-net.ensures.0 in (
-      scan_found pre.2 _ _ _ taken net c.is_undecided.ensures c.if-is_undecided.true ∙ c.loop-k.invariant.1,
+      scan_found pre.2 _ _ _ taken net c.is_undecided-undecided.ensures c.if-undecided.true ∙ c.loop-k.invariant.1,
       omega (arith, net, pre.2.low _ taken),
     )
 
@@ -30,7 +30,7 @@ loop-k-preserved c =
     let pre = c.requires in
     let taken = c.loop-k-test.true in
     let net = c.usize_from_u8-net.ensures.0 in
-    (omega arith, scan_next pre.2 _ _ _ taken net c.is_undecided.ensures c.if-is_undecided.false ∙ c.loop-k.invariant.1)
+    (omega arith, scan_next pre.2 _ _ _ taken net c.is_undecided-undecided.ensures c.if-undecided.false ∙ c.loop-k.invariant.1)
 
 pub returns : goal.returns
 returns c =

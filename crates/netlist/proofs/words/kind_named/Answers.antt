@@ -23,68 +23,68 @@ isShort word = within 1 8 (length word) && lettered word
 
 -- A word is a short one where it has its number, and is not where it has another.
 module _ {number : ℕ} (letters : Letters) (proper : lettered letters ≡ true) (told : number ≡ short_number letters) where
-  same-told : (word : Letters) → isShort word ≡ true → eqb number (number_of word) ≡ same letters word
-  same-told word short =
+  same_told : (word : Letters) → isShort word ≡ true → eqb number (number_of word) ≡ same letters word
+  same_told word short =
       let size = and_left (within 1 8 (length word)) (lettered word) short in
       let lower = within_low 1 8 (length word) size in
       let upper = within_high 1 8 (length word) size in
       rw told (short_same letters word proper (and_right (within 1 8 (length word)) (lettered word) short) lower upper)
 
-  kind-told : (word : Letters) → isShort word ≡ true → number ≡ number_of word → kind_named word ≡ kind_named letters
-  kind-told word short e = ap kind_named (sym (same_is letters word (sym (same-told word short) ∙ eq-eqb number (number_of word) e)))
+  kind_told : (word : Letters) → isShort word ≡ true → number ≡ number_of word → kind_named word ≡ kind_named letters
+  kind_told word short e = ap kind_named (sym (same_is letters word (sym (same_told word short) ∙ eq-eqb number (number_of word) e)))
 
-  other-told : (word : Letters) → isShort word ≡ true → (number ≡ number_of word → ⊥) → same letters word ≡ false
-  other-told word short n = sym (same-told word short) ∙ ne_eqb number (number_of word) n
+  other_told : (word : Letters) → isShort word ≡ true → (number ≡ number_of word → ⊥) → same letters word ≡ false
+  other_told word short n = sym (same_told word short) ∙ ne_eqb number (number_of word) n
 
 pub returns-in-4279876 : goal.returns-in-4279876
 unfolding kind_named position same lettered is_letter_or_digit within backwards number_of
 returns-in-4279876 c letters e proper =
-    kind-told letters proper (c.short-number.ensures letters e proper) (ascii "AND") refl c.in-4279876.is
+    kind_told letters proper (c.short-number.ensures letters e proper) (ascii "AND") refl c.in-4279876.is
 
 pub returns-in-1312902724 : goal.returns-in-1312902724
 unfolding kind_named position same lettered is_letter_or_digit within backwards number_of
 returns-in-1312902724 c letters e proper =
-    kind-told letters proper (c.short-number.ensures letters e proper) (ascii "NAND") refl c.in-1312902724.is
+    kind_told letters proper (c.short-number.ensures letters e proper) (ascii "NAND") refl c.in-1312902724.is
 
 pub returns-in-20306 : goal.returns-in-20306
 unfolding kind_named position same lettered is_letter_or_digit within backwards number_of
 returns-in-20306 c letters e proper =
-    kind-told letters proper (c.short-number.ensures letters e proper) (ascii "OR") refl c.in-20306.is
+    kind_told letters proper (c.short-number.ensures letters e proper) (ascii "OR") refl c.in-20306.is
 
 pub returns-in-5132114 : goal.returns-in-5132114
 unfolding kind_named position same lettered is_letter_or_digit within backwards number_of
 returns-in-5132114 c letters e proper =
-    kind-told letters proper (c.short-number.ensures letters e proper) (ascii "NOR") refl c.in-5132114.is
+    kind_told letters proper (c.short-number.ensures letters e proper) (ascii "NOR") refl c.in-5132114.is
 
 pub returns-in-5787474 : goal.returns-in-5787474
 unfolding kind_named position same lettered is_letter_or_digit within backwards number_of
 returns-in-5787474 c letters e proper =
-    kind-told letters proper (c.short-number.ensures letters e proper) (ascii "XOR") refl c.in-5787474.is
+    kind_told letters proper (c.short-number.ensures letters e proper) (ascii "XOR") refl c.in-5787474.is
 
 pub returns-in-1481527122 : goal.returns-in-1481527122
 unfolding kind_named position same lettered is_letter_or_digit within backwards number_of
 returns-in-1481527122 c letters e proper =
-    kind-told letters proper (c.short-number.ensures letters e proper) (ascii "XNOR") refl c.in-1481527122.is
+    kind_told letters proper (c.short-number.ensures letters e proper) (ascii "XNOR") refl c.in-1481527122.is
 
 pub returns-in-5132116 : goal.returns-in-5132116
 unfolding kind_named position same lettered is_letter_or_digit within backwards number_of
 returns-in-5132116 c letters e proper =
-    kind-told letters proper (c.short-number.ensures letters e proper) (ascii "NOT") refl c.in-5132116.is
+    kind_told letters proper (c.short-number.ensures letters e proper) (ascii "NOT") refl c.in-5132116.is
 
 pub returns-in-4347206 : goal.returns-in-4347206
 unfolding kind_named position same lettered is_letter_or_digit within backwards number_of
 returns-in-4347206 c letters e proper =
-    kind-told letters proper (c.short-number.ensures letters e proper) (ascii "BUF") refl c.in-4347206.is
+    kind_told letters proper (c.short-number.ensures letters e proper) (ascii "BUF") refl c.in-4347206.is
 
 pub returns-in-1112884806 : goal.returns-in-1112884806
 unfolding kind_named position same lettered is_letter_or_digit within backwards number_of
 returns-in-1112884806 c letters e proper =
-    kind-told letters proper (c.short-number.ensures letters e proper) (ascii "BUFF") refl c.in-1112884806.is
+    kind_told letters proper (c.short-number.ensures letters e proper) (ascii "BUFF") refl c.in-1112884806.is
 
 pub returns-in_default : goal.returns-in_default
 unfolding kind_named position lettered is_letter_or_digit within backwards number_of
 returns-in_default c letters e proper =
-    let no = other-told letters proper (c.short-number.ensures letters e proper) in
+    let no = other_told letters proper (c.short-number.ensures letters e proper) in
     rw (
       no (ascii "AND") refl (omega arith),
       no (ascii "NAND") refl (omega arith),

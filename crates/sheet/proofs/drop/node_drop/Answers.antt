@@ -8,11 +8,11 @@ use Rattle.sheet.proofs.Drops.{node_next, node_small}
 use Rattle.sheet.proofs.drop.node_drop.Goals as goal
 
 -- The sum with the contact is below the limit.
-sum-small : (c : goal.After-shared_slice_known-in-loop-contact-2-1)
+sum_small : (c : goal.After-shared_slice_known-in-loop-contact-2-1)
     → c.loop-contact.sum
     + c.u64_from_u16-resistance.result * get_or c.args.sheet.now (512 * c.loop-contact.contact + c.args.t) 0
     < drop_limit
-sum-small c =
+sum_small c =
     let loop = c.loop-contact in
     node_small c.args.table.now c.args.sheet.now c.args.node c.args.t loop.contact loop.invariant.1
     c.u64_from_u16-resistance.ensures.0 refl (omega arith)
@@ -23,10 +23,10 @@ unfolding sum_below
 loop-contact-init c = (omega arith, refl)
 
 pub overflow_mul-sum-in-loop-contact : goal.overflow_mul-sum-in-loop-contact
-overflow_mul-sum-in-loop-contact c = omega (arith, sum-small c)
+overflow_mul-sum-in-loop-contact c = omega (arith, sum_small c)
 
 pub overflow_add-sum-in-loop-contact : goal.overflow_add-sum-in-loop-contact
-overflow_add-sum-in-loop-contact c = omega (arith, sum-small c)
+overflow_add-sum-in-loop-contact c = omega (arith, sum_small c)
 
 pub loop-contact-preserved : goal.loop-contact-preserved
 loop-contact-preserved c =
