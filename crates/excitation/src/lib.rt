@@ -69,7 +69,7 @@ fn start_of(by: Join) -> usize
     }
 }
 
-// The table of set joins. An array constant is written out anew at each use, so whoever joins many sets keeps this one and lends it.
+// The table of set joins. Whoever joins many sets keeps this one and lends it.
 pub fn joins() -> [u8; 768]
     ensures { result ≡ join_table }
 {

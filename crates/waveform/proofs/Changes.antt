@@ -23,6 +23,14 @@ module _ {A : Type 0} (at : ℕ → A) where
   pub settled_later : (last later : ℕ) → last ≤ later → SettledAfter last at → SettledAfter later at
   settled_later last later l s = record { same = λ t h. s.same t (omega arith) }
 
+  -- A word is such a word of a part where its bits are clear just at the ticks at which what is read of the part is the last one.
+  pub others_found : (part word : ℕ) (read last : ℕ → A) → ((k : ℕ) → k < 64 → read k ≡ at (64 * part + k)) → ((k : ℕ) → k < 64 → last k ≡ at 255)
+      → ((k : ℕ) → (bit_at word k ≡ false → read k ≡ last k) × (read k ≡ last k → bit_at word k ≡ false)) → OtherTicks at part word
+  others_found part word read last here end differing = record {
+    same = λ k h e. sym (here k h) ∙ (differing k).0 e ∙ end k h;
+    clear = λ k h e. (differing k).1 (here k h ∙ e ∙ sym (end k h));
+  }
+
   -- Settled after a part, and settled in the part from a tick on.
   settled_within : (part last : ℕ) → 64 * part ≤ last + 1 → SettledAfter (64 * (part + 1) - 1) at
       → ((k : ℕ) → k < 64 → last < 64 * part + k → at (64 * part + k) ≡ at 255) → SettledAfter last at

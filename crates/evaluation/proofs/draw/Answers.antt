@@ -63,13 +63,12 @@ gate_waveform-requires c =
 
 pub draw_gate-requires : goal.draw_gate-requires
 draw_gate-requires c =
-    let s = c.before in
-    let g = s.requires.0 in
+    let g = c.requires.0 in
     let l = c.loop-net in
     let begun = c.make_inputs.ensures.long in
-    let file = s.args.file.now in
-    let setting = s.args.setting in
-    let sets = sets_in setting.inputs s.args.codes.now in
+    let file = c.args.file.now in
+    let setting = c.args.setting in
+    let sets = sets_in setting.inputs c.args.codes.now in
     let here : l.net < setting.nets = c.loop-net-test.true in
     let rows : HasRows l.work setting.nets = record { whole = omega (arith, g.rows.whole, begun, l.invariant.2); numbered = g.rows.numbered } in
     let read = c.gate-gate.ensures in
@@ -78,13 +77,10 @@ draw_gate-requires c =
 
 pub arrival-arrival-requires : goal.arrival-arrival-requires
 arrival-arrival-requires c =
-    let s = c.before.before in
-    let g = s.requires.0 in
+    let g = c.requires.0 in
     let l = c.loop-net in
     let begun = c.make_inputs.ensures.long in
-    let file = s.args.file.now in
-    let setting = s.args.setting in
-    let sets = sets_in setting.inputs s.args.codes.now in
+    let setting = c.args.setting in
     let here : l.net < setting.nets = c.loop-net-test.true in
     let rows : HasRows l.work setting.nets = record { whole = omega (arith, g.rows.whole, begun, l.invariant.2); numbered = g.rows.numbered } in
     let read = c.gate-gate.ensures in
@@ -93,13 +89,12 @@ arrival-arrival-requires c =
 
 pub last_pulse_end-requires : goal.last_pulse_end-requires
 last_pulse_end-requires c =
-    let s = c.before.before in
-    let g = s.requires.0 in
+    let g = c.requires.0 in
     let l = c.loop-net in
     let begun = c.make_inputs.ensures.long in
-    let file = s.args.file.now in
-    let setting = s.args.setting in
-    let sets = sets_in setting.inputs s.args.codes.now in
+    let file = c.args.file.now in
+    let setting = c.args.setting in
+    let sets = sets_in setting.inputs c.args.codes.now in
     let here : l.net < setting.nets = c.loop-net-test.true in
     let rows : HasRows l.work setting.nets = record { whole = omega (arith, g.rows.whole, begun, l.invariant.2); numbered = g.rows.numbered } in
     let read = c.gate-gate.ensures in
@@ -116,13 +111,12 @@ loop-net-smaller c = omega (arith, c.loop-net-test.true)
 
 pub loop-net-preserved : goal.loop-net-preserved
 loop-net-preserved c =
-    let s = c.before.before in
-    let g = s.requires.0 in
+    let g = c.requires.0 in
     let l = c.loop-net in
     let begun = c.make_inputs.ensures.long in
-    let file = s.args.file.now in
-    let setting = s.args.setting in
-    let sets = sets_in setting.inputs s.args.codes.now in
+    let file = c.args.file.now in
+    let setting = c.args.setting in
+    let sets = sets_in setting.inputs c.args.codes.now in
     let here : l.net < setting.nets = c.loop-net-test.true in
     let rows : HasRows l.work setting.nets = record { whole = omega (arith, g.rows.whole, begun, l.invariant.2); numbered = g.rows.numbered } in
     let read = c.gate-gate.ensures in

@@ -9,7 +9,7 @@ returns-then-last-hops c = let pre = c.requires in few_filled _ _ _ _ pre.3 (ear
 
 pub returns-then-count_starts-hops : goal.returns-then-count_starts-hops
 returns-then-count_starts-hops c =
-    few_filled _ _ _ _ c.before.requires.3 (λ e. omega (arith, c.count_starts.ensures e, c.if-count_starts-hops.true))
+    few_filled _ _ _ _ c.requires.3 (λ e. omega (arith, c.count_starts.ensures e, c.if-count_starts-hops.true))
 
 pub returns : goal.returns
 returns c =

@@ -6,9 +6,8 @@ use Rattle.fill.proofs.fill_shortest.Goals as goal
 
 pub overflow_add-start : goal.overflow_add-start
 overflow_add-start c =
-    omega (arith, gap_fits _ _ _ c.before.requires.1 c.shortest_gap-shortest.ensures)
+    omega (arith, gap_fits _ _ _ c.requires.1 c.shortest_gap-shortest.ensures)
 
 pub returns : goal.returns
 returns c =
-    let s = c.before in
-    gap_filled _ _ _ s.requires.1 c.shortest_gap-shortest.ensures _ c.set_range.ensures s.requires.0
+    gap_filled _ _ _ c.requires.1 c.shortest_gap-shortest.ensures _ c.set_range.ensures c.requires.0

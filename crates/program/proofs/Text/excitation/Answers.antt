@@ -1,5 +1,6 @@
 -- `program::Text::excitation` meets its contract.
 -- Assumes nothing.
+use native.Mathlib.Omega.{arith}
 use borrow.Author.Rules.{rules}
 use Rattle.excitation.specs.Excitation.{excitation_of}
 use Rattle.excitation.proofs.Bytes.{byte_other}
@@ -21,5 +22,4 @@ returns-in-3 c = let e = c.in-3.is in rw e (c.word-in-3.ensures, search rules)
 pub returns-in_default : goal.returns-in_default
 unfolding excitation_word
 returns-in_default c =
-    let other = c.in_default.in_default-own.rest in
-    rw (byte_other _ other.0.0.1 other.0.1 other.1) (c.word-in_default.ensures, search rules)
+    rw (byte_other c.args.byte (λ e. omega arith) (λ e. omega arith) (λ e. omega arith)) (c.word-in_default.ensures, search rules)

@@ -12,16 +12,15 @@ use Rattle.waveform.proofs.Written.{filled_room}
 use Rattle.waveform.proofs.gate.gate_waveform.Goals as goal
 
 pub latest_pin-latest-requires : goal.latest_pin-latest-requires
-latest_pin-latest-requires c = pin_rows c.before.requires.0
+latest_pin-latest-requires c = pin_rows c.requires.0
 
 pub gate_before-before-requires : goal.gate_before-before-requires
-gate_before-before-requires c = let s = c.before.before in (pin_rows s.requires.0, s.requires.2)
+gate_before-before-requires c = (pin_rows c.requires.0, c.requires.2)
 
 pub make_row-settled-requires : goal.make_row-settled-requires
 make_row-settled-requires c =
-    let s = c.before.before in
     let number = c.function_number-f.ensures in (
-      row_ready s.args.net.0 s.args.gate s.args.work.now s.requires.0 _ _ c.latest_pin-latest.ensures.0 c.latest_pin-latest.ensures.1,
+      row_ready c.args.net.0 c.args.gate c.args.work.now c.requires.0 _ _ c.latest_pin-latest.ensures.0 c.latest_pin-latest.ensures.1,
       number.0 ∙ ap (λ r. number_of (levels_of r.join)) c.gate_rule-rule.ensures,
       ap (λ r. r.inverts) c.gate_rule-rule.ensures,
       number.1,
@@ -30,45 +29,42 @@ make_row-settled-requires c =
 
 pub fill-requires : goal.fill-requires
 fill-requires c =
-    let s = c.before.before in
     let latest = c.latest_pin-latest.ensures in
     let row = c.make_row-settled.ensures.0 in
-    let soon = in_time s.args.net.0 s.args.gate s.args.work.now s.requires.0 _ _ latest.0 latest.1 in (
-      row_room _ _ _ row _ s.requires.0.room,
-      s.requires.1,
+    let soon = in_time c.args.net.0 c.args.gate c.args.work.now c.requires.0 _ _ latest.0 latest.1 in (
+      row_room _ _ _ row _ c.requires.0.room,
+      c.requires.1,
       omega (arith, soon.0, soon.1),
-      row_settled s.args.net.0 s.args.gate s.args.work.now s.requires.0 _ _ latest.0 latest.1 _ row,
+      row_settled c.args.net.0 c.args.gate c.args.work.now c.requires.0 _ _ latest.0 latest.1 _ row,
     )
 
 pub last_change-last-requires : goal.last_change-last-requires
 last_change-last-requires c =
-    let s = c.before.before.before in
     let latest = c.latest_pin-latest.ensures in
-    let soon = in_time s.args.net.0 s.args.gate s.args.work.now s.requires.0 _ _ latest.0 latest.1 in
+    let soon = in_time c.args.net.0 c.args.gate c.args.work.now c.requires.0 _ _ latest.0 latest.1 in
     let row = c.make_row-settled.ensures in (
-      filled_room c.fill.ensures (row_room _ _ _ row.0 _ s.requires.0.room),
+      filled_room c.fill.ensures (row_room _ _ _ row.0 _ c.requires.0.room),
       c.fill.ensures.settled,
       soon.0,
       soon.1,
-      row_end s.args.net.0 s.args.gate s.args.work.now s.requires.0 _ _ latest.0 latest.1 _ _ row.0 c.fill.ensures row.1,
+      row_end c.args.net.0 c.args.gate c.args.work.now c.requires.0 _ _ latest.0 latest.1 _ _ row.0 c.fill.ensures row.1,
     )
 
 pub overflow_cast-arrival : goal.overflow_cast-arrival
 overflow_cast-arrival c =
-    omega (arith, c.before.before.before.requires.0.in_time, c.latest_pin-latest.ensures.0)
+    omega (arith, c.requires.0.in_time, c.latest_pin-latest.ensures.0)
 
 pub overflow_cast-last : goal.overflow_cast-last
 overflow_cast-last c =
-    omega (arith, c.before.before.before.requires.0.in_time, c.latest_pin-latest.ensures.0, c.last_change-last.ensures.soon)
+    omega (arith, c.requires.0.in_time, c.latest_pin-latest.ensures.0, c.last_change-last.ensures.soon)
 
 pub write_ends-requires : goal.write_ends-requires
 write_ends-requires c =
-    filled_room c.fill.ensures (row_room _ _ _ c.make_row-settled.ensures.0 _ c.before.before.before.requires.0.room)
+    filled_room c.fill.ensures (row_room _ _ _ c.make_row-settled.ensures.0 _ c.requires.0.room)
 
 pub returns : goal.returns
 returns c =
-    let s = c.before.before.before in
-    let arrival = ap (λ x. x + s.args.gate.delay) c.latest_pin-latest.ensures.0 in
-    gate_made s.args.hops s.args.net.0 s.args.gate s.args.work.now s.requires.0 _ _ _ _ _ _ _
+    let arrival = ap (λ x. x + c.args.gate.delay) c.latest_pin-latest.ensures.0 in
+    gate_made c.args.hops c.args.net.0 c.args.gate c.args.work.now c.requires.0 _ _ _ _ _ _ _
     c.gate_before-before.ensures c.make_row-settled.ensures.0 c.fill.ensures arrival c.last_change-last.ensures
     c.write_ends.ensures

@@ -1,12 +1,12 @@
 -- `waveform::gate::last_change` meets its contract.
 -- Assumes nothing.
 use Prim.Native.Nat.{◌+◌, ◌-◌, ◌*◌, ◌<◌}
-use mathlib.Core.Path.{◌≡◌, refl, sym, ◌∙◌}
+use mathlib.Core.Path.{◌≡◌, refl}
 use native.Mathlib.Omega.{arith}
 use Rattle.laws.specs.Settled.{SettledAfter}
 use Rattle.bits.proofs.Leading.{leading_few}
 use Rattle.rows.specs.Rows.{set_in}
-use Rattle.waveform.proofs.Changes.{OtherTicks, settled_later, none_other, last_other, last_soon}
+use Rattle.waveform.proofs.Changes.{others_found, settled_later, none_other, last_other, last_soon}
 use Rattle.waveform.proofs.gate.last_change.Goals as goal
 
 pub returns-then-arrival-eq255 : goal.returns-then-arrival-eq255
@@ -28,17 +28,10 @@ overflow_sub-result c = omega (arith, leading_few 64 _ (omega (arith, c.if-other
 
 pub returns-then-other-ne0 : goal.returns-then-other-ne0
 returns-then-other-ne0 c =
-    let row = set_in c.args.work.now c.args.net in
     let part = c.loop-part.part - 1 in
-    let here = c.read_part.ensures in
     let last = (c.requires.4 (omega (arith, c.requires.3, c.if-arrival-eq255.false))).at in
-    -- In the part the sets are the last one where the word is clear, and nowhere else.
-    let others : OtherTicks row part c.differing-other.result = record {
-      same = λ k h e. sym (here k h) ∙ (c.differing-other.ensures k).0 e ∙ last k h;
-      clear = λ k h e. (c.differing-other.ensures k).1 (here k h ∙ e ∙ sym (last k h));
-    } in
-    -- After the part all sets are the last one.
-    let later : SettledAfter (64 * (part + 1) - 1) row =
+    let others = others_found (set_in c.args.work.now c.args.net) part _ _ _ c.read_part.ensures last c.differing-other.ensures in
+    let later : SettledAfter (64 * (part + 1) - 1) (set_in c.args.work.now c.args.net) =
     settled_later _ (64 * c.loop-part.part - 1) _ (omega (arith, c.loop-part-test.true)) c.loop-part.invariant.1 in
     let some : 0 < c.differing-other.result = omega (arith, c.if-other-ne0.true) in
     let l : part < 4 = omega (arith, c.loop-part.invariant.0) in
@@ -51,17 +44,10 @@ returns-then-other-ne0 c =
 
 pub loop-part-preserved : goal.loop-part-preserved
 loop-part-preserved c =
-    let row = set_in c.args.work.now c.args.net in
     let part = c.loop-part.part - 1 in
-    let here = c.read_part.ensures in
     let last = (c.requires.4 (omega (arith, c.requires.3, c.if-arrival-eq255.false))).at in
-    -- In the part the sets are the last one where the word is clear, and nowhere else.
-    let others : OtherTicks row part c.differing-other.result = record {
-      same = λ k h e. sym (here k h) ∙ (c.differing-other.ensures k).0 e ∙ last k h;
-      clear = λ k h e. (c.differing-other.ensures k).1 (here k h ∙ e ∙ sym (last k h));
-    } in
-    -- After the part all sets are the last one.
-    let later : SettledAfter (64 * (part + 1) - 1) row =
+    let others = others_found (set_in c.args.work.now c.args.net) part _ _ _ c.read_part.ensures last c.differing-other.ensures in
+    let later : SettledAfter (64 * (part + 1) - 1) (set_in c.args.work.now c.args.net) =
     settled_later _ (64 * c.loop-part.part - 1) _ (omega (arith, c.loop-part-test.true)) c.loop-part.invariant.1 in
     (omega arith, none_other _ part _ others c.if-other-ne0.false later)
 
