@@ -19,12 +19,10 @@ fn zero_bytes(file: &[u8], net: Net, k: usize, n: usize) -> bool
     requires { HasRecord file.now net.0 × (k + n ≤ 20) }
     ensures { result ≡ zero_bytes file.now net.0 k n }
 {
-    let mut i: usize = 0;
-    while i < n {
+    for i in 0..n {
         if record::byte(file, net, k + i) != 0 {
             return false;
         }
-        i += 1;
     }
     true
 }
@@ -63,13 +61,11 @@ fn unused_pins_zero(file: &[u8], net: Net) -> bool
 {
     let used = record::pin_count(file, net);
     let unused = 4 - used;
-    let mut i: usize = 0;
-    while i < unused {
+    for i in 0..unused {
         let source = record::pin(file, net, used + i);
         if source.0 != 0 {
             return false;
         }
-        i += 1;
     }
     true
 }
@@ -88,13 +84,11 @@ fn pins_below(file: &[u8], net: Net) -> bool
     ensures { result ≡ pins_below file.now net.0 }
 {
     let pins = record::pin_count(file, net);
-    let mut p: usize = 0;
-    while p < pins {
+    for p in 0..pins {
         let source = record::pin(file, net, p);
         if net.0 <= source.0 {
             return false;
         }
-        p += 1;
     }
     true
 }

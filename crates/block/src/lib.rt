@@ -115,9 +115,7 @@ pub fn frame_codes(file: &[u8], inputs: usize, codes: &mut [u8])
     requires { (20 * inputs ≤ length file.now) × (inputs ≤ 64) × (length codes.old ≡ 64) }
     ensures { Rewritten (allowed file.now) 0 inputs codes.old codes.new }
 {
-    let mut net: usize = 0;
-    while net < inputs {
+    for net in 0..inputs {
         codes[net] = record::allowed(file, Net(net)) as u8;
-        net += 1;
     }
 }

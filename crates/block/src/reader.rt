@@ -19,12 +19,10 @@ fn latest_pin(file: &[u8], net: Net, earlier: &[u8; 1024]) -> usize
 {
     let pins = record::pin_count(file, net);
     let mut latest: usize = 0;
-    let mut p: usize = 0;
-    while p < pins {
+    for p in 0..pins {
         let source = record::pin(file, net, p);
         let at = source.0;
-        latest = numbers::max_usize(latest, numbers::usize_from_u8(earlier[at]));
-        p += 1;
+        latest = latest.max(usize::from(earlier[at]));
     }
     latest
 }
@@ -35,7 +33,7 @@ fn arrival(file: &[u8], net: Net, earlier: &[u8; 1024]) -> usize
     ensures { result ≡ arrival_from file.now (take net.0 earlier.now) net.0 }
 {
     if record::kind(file, net) == 1 {
-        return numbers::usize_from_u8(record::switching_tick(file, net));
+        return usize::from(record::switching_tick(file, net));
     }
     let latest = latest_pin(file, net, earlier);
     latest + record::delay(file, net)
@@ -71,17 +69,15 @@ pub fn check_records(file: &[u8], nets: usize) -> ReadAnswer
 {
     let mut arrivals = [0u8; 1024];
     let mut inputs: usize = 0;
-    let mut net: usize = 0;
-    while net < nets {
+    for net in 0..nets {
         let checked = check_record(file, Net(net), inputs, &mut arrivals);
         if let Verdict::Refused(r) = checked {
             return ReadAnswer::Refused(r);
         }
         inputs += input_indicator(file, Net(net));
-        net += 1;
     }
     ReadAnswer::Counts {
-        nets: net as u64,
+        nets: nets as u64,
         inputs: inputs as u64,
     }
 }

@@ -13,7 +13,7 @@ pub fn byte(file: &[u8], net: Net, k: usize) -> usize
     ensures { (result ≡ byte_at file.now net.0 k) × (result < 256) }
 {
     let start = net.start();
-    numbers::usize_from_u8(file[start + k])
+    usize::from(file[start + k])
 }
 
 // The two-byte number at byte k, the low byte first.

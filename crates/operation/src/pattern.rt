@@ -24,10 +24,8 @@ pub fn check_pattern(file: &[u8], inputs: usize, pattern: &[u8]) -> Verdict
     ensures { result ≡ verdict (byte_checks file.now pattern.now inputs) }
 {
     let mut earlier = Verdict::Accepted;
-    let mut net: usize = 0;
-    while net < inputs {
+    for net in 0..inputs {
         earlier = earlier.also(16, net as u64, byte_allowed(file, Net(net), pattern[net]));
-        net += 1;
     }
     earlier
 }

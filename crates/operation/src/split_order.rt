@@ -10,12 +10,10 @@ fn times_named(order: &[u8], net: Net) -> usize
     ensures { (result ≡ times_named order.now net.0) × (result ≤ length order.now) }
 {
     let mut times: usize = 0;
-    let mut k: usize = 0;
-    while k < order.len() {
-        if numbers::usize_from_u8(order[k]) == net.0 {
+    for k in 0..order.len() {
+        if usize::from(order[k]) == net.0 {
             times += 1;
         }
-        k += 1;
     }
     times
 }
@@ -27,12 +25,10 @@ fn names_each(order: &[u8], inputs: usize) -> bool
     if order.len() != inputs {
         return false;
     }
-    let mut net: usize = 0;
-    while net < inputs {
+    for net in 0..inputs {
         if times_named(order, Net(net)) != 1 {
             return false;
         }
-        net += 1;
     }
     true
 }

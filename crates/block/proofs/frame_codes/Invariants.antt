@@ -7,6 +7,3 @@ use Rattle.block.proofs.frame_codes.Given as goal
 
 abbrev pub invariant-loop-net : goal.invariant-loop-net
 invariant-loop-net l = (l.net ≤ l.inputs) × Rewritten (allowed l.file) 0 l.net l.initial.codes l.codes
-
-abbrev pub decreases-loop-net : goal.decreases-loop-net
-decreases-loop-net l = l.inputs - l.net

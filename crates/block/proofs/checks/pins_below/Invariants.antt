@@ -10,6 +10,3 @@ use Rattle.block.proofs.checks.pins_below.Given as goal
 
 abbrev pub invariant-loop-p : goal.invariant-loop-p
 invariant-loop-p l = (l.p ≤ l.pins) × (all_below l.p (λ q. ltb (pin l.file l.net.0 q) l.net.0) ≡ true)
-
-abbrev pub decreases-loop-p : goal.decreases-loop-p
-decreases-loop-p l = l.pins - l.p

@@ -10,6 +10,3 @@ use Rattle.block.proofs.checks.unused_pins_zero.Given as goal
 
 abbrev pub invariant-loop-i : goal.invariant-loop-i
 invariant-loop-i l = (l.i ≤ 4 - pin_count l.file l.net.0) × (all_below l.i (λ j. eqb (pin l.file l.net.0 (pin_count l.file l.net.0 + j)) 0) ≡ true)
-
-abbrev pub decreases-loop-i : goal.decreases-loop-i
-decreases-loop-i l = l.unused - l.i

@@ -9,7 +9,7 @@ use Rattle.block.proofs.reader.arrival.Goals as goal
 
 pub returns-then-kind-eq1 : goal.returns-then-kind-eq1
 unfolding arrival_from
-returns-then-kind-eq1 c = rw (is_input_lem _ _ (sym c.kind.ensures.0 ∙ c.if-kind-eq1.true)) (c.usize_from_u8.ensures.0 ∙ c.switching_tick.ensures)
+returns-then-kind-eq1 c = rw (is_input_lem _ _ (sym c.kind.ensures.0 ∙ c.if-kind-eq1.true)) (c.from.ensures ∙ c.switching_tick.ensures)
 
 pub latest_pin-latest-requires : goal.latest_pin-latest-requires
 latest_pin-latest-requires c = (search rules, gate_record_lem _ _ c.requires.1 (is_gate_lem _ _ (λ e. c.if-kind-eq1.false (c.kind.ensures.0 ∙ e))))

@@ -43,5 +43,5 @@ pub returns : goal.returns
 returns c =
     let l = c.loop-net in
     let n : l.net ≡ net_count c.args.file.now = omega arith in
-    ap₂ answer.Counts n (l.invariant.2.counted ∙ ap (inputs_below c.args.file.now) n)
+    ap₂ answer.Counts c.requires.0 (l.invariant.2.counted ∙ ap (inputs_below c.args.file.now) n)
     ∙ ap (answer_to _) (sym (records_end _ _ _ c.loop-net-test.false) ∙ l.invariant.3)

@@ -34,9 +34,9 @@ loop-p-preserved c =
     let below = c.requires.1.pin_below l.p (omega arith) in
     let source : c.pin-source.result.0 ≡ pin_of (gate_of c.args.file.now c.args.net.0) l.p =
     c.pin-source.ensures ∙ sym (pin_of_lem c.args.file.now c.args.net.0 l.p (omega arith)) in
-    let here : c.usize_from_u8.result ≡ get_or (take c.args.net.0 c.args.earlier.now) (pin_of (gate_of c.args.file.now c.args.net.0) l.p) 0 =
-    c.usize_from_u8.ensures.0 ∙ ap (λ k. get_or c.args.earlier.now k 0) source ∙ sym (get_or-take _ c.args.earlier.now _ 0 below) in
-    (search rules, omega arith, c.max_usize-latest.ensures ∙ rw (l.invariant.2, here) (sym (max_next l.p _)))
+    let here : c.from.result ≡ get_or (take c.args.net.0 c.args.earlier.now) (pin_of (gate_of c.args.file.now c.args.net.0) l.p) 0 =
+    c.from.ensures ∙ ap (λ k. get_or c.args.earlier.now k 0) source ∙ sym (get_or-take _ c.args.earlier.now _ 0 below) in
+    (search rules, omega arith, c.max-latest.ensures ∙ rw (l.invariant.2, here) (sym (max_next l.p _)))
 
 pub returns : goal.returns
 unfolding latest_pin gate_of

@@ -9,6 +9,3 @@ use Rattle.block.proofs.reader.latest_pin.Given as goal
 
 abbrev pub invariant-loop-p : goal.invariant-loop-p
 invariant-loop-p l = (l.p ≤ l.pins) × (l.latest < 256) × (l.latest ≡ max_below l.p (λ q. get_or (take l.net.0 l.earlier) (pin_of (gate_of l.file l.net.0) q) 0))
-
-abbrev pub decreases-loop-p : goal.decreases-loop-p
-decreases-loop-p l = l.pins - l.p

@@ -8,4 +8,4 @@ use Rattle.block.proofs.record.byte.Goals as goal
 
 pub returns : goal.returns
 returns c =
-    (c.usize_from_u8.ensures.0 ∙ ap (λ s. get_or c.args.file.now (s + c.args.k) 0) c.start-start.ensures, search rules)
+    (c.from.ensures ∙ ap (λ s. get_or c.args.file.now (s + c.args.k) 0) c.start-start.ensures, search rules)

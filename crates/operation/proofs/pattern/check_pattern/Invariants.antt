@@ -8,6 +8,3 @@ use Rattle.operation.proofs.pattern.check_pattern.Given as goal
 
 abbrev pub invariant-loop-net : goal.invariant-loop-net
 invariant-loop-net l = (l.net ≤ l.inputs) × (l.earlier ≡ verdict (byte_checks l.file l.pattern l.net))
-
-abbrev pub decreases-loop-net : goal.decreases-loop-net
-decreases-loop-net l = l.inputs - l.net

@@ -10,6 +10,3 @@ use Rattle.operation.proofs.split_order.names_each.Given as goal
 
 abbrev pub invariant-loop-net : goal.invariant-loop-net
 invariant-loop-net l = (l.net ≤ l.inputs) × (all_below l.net (λ n. eqb (times_named l.order n) 1) ≡ true)
-
-abbrev pub decreases-loop-net : goal.decreases-loop-net
-decreases-loop-net l = l.inputs - l.net

@@ -3,7 +3,7 @@
 use native.Mathlib.Omega.{arith}
 use Rattle.operation.proofs.SplitOrders.{times_here, times_other, times_end}
 use Rattle.operation.proofs.split_order.times_named.Goals as goal
-use Rattle.operation.proofs.split_order.times_named.Goals.{then-usize_from_u8-net, else-usize_from_u8-net}
+use Rattle.operation.proofs.split_order.times_named.Goals.{then-from-net, else-from-net}
 
 pub loop-k-init : goal.loop-k-init
 loop-k-init c = (omega arith, omega arith, omega arith)
@@ -16,12 +16,12 @@ loop-k-preserved c =
     let order = args.order.now in
     let net = args.net.0 in
     let taken = c.loop-k-test.true in
-    let x = c.usize_from_u8.ensures.0 in
-    elim c.if-usize_from_u8-net.branch [
-      | then-usize_from_u8-net w ↦
-          (omega arith, omega (arith, inv.1, w.times-is), omega (arith, inv.2, w.times-is, times_here order net k c.usize_from_u8.result taken x w.if-usize_from_u8-net.true))
-      | else-usize_from_u8-net w ↦
-          (omega arith, omega (arith, inv.1, w.times-is), omega (arith, inv.2, w.times-is, times_other order net k c.usize_from_u8.result taken x w.if-usize_from_u8-net.false))
+    let x = c.from.ensures in
+    elim c.if-from-net.branch [
+      | then-from-net w ↦
+          (omega arith, omega (arith, inv.1, w.times-is), omega (arith, inv.2, w.times-is, times_here order net k c.from.result taken x w.if-from-net.true))
+      | else-from-net w ↦
+          (omega arith, omega (arith, inv.1, w.times-is), omega (arith, inv.2, w.times-is, times_other order net k c.from.result taken x w.if-from-net.false))
     ]
 
 pub returns : goal.returns

@@ -8,6 +8,3 @@ use Rattle.operation.proofs.split_order.times_named.Given as goal
 
 abbrev pub invariant-loop-k : goal.invariant-loop-k
 invariant-loop-k l = (l.k ≤ length l.order) × (l.times ≤ l.k) × (l.times + times_named (drop l.k l.order) l.net.0 ≡ times_named l.order l.net.0)
-
-abbrev pub decreases-loop-k : goal.decreases-loop-k
-decreases-loop-k l = length l.order - l.k
