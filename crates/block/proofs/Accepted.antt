@@ -1,5 +1,9 @@
 -- What Read's acceptance says of a file.
 -- Assumes nothing.
+use Rattle.block.specs.declared.verdict.Reason.TheVariants.{LateArrival}
+use Rattle.std.specs.Prelude.{Ok, Err}
+use Rattle.block.specs.Verdict.{Verdict, Accepted}
+use Rattle.block.specs.Refusals.{counts}
 use Prim.Native.Nat.{ℕ, zero, suc, ◌+◌, ◌%◌, ◌≤◌, ◌<◌}
 use mathlib.Core.Path.{◌≡◌, refl, sym, ap, ◌∙◌}
 use mathlib.Core.Bool.{true, false, false≢true}
@@ -17,10 +21,7 @@ use Rattle.laws.proofs.Turn.{turn_at}
 use Rattle.excitation.specs.declared.Excitation.{Excitation}
 use Rattle.excitation.specs.UncertaintySet.{◌∈◌, decode}
 use Rattle.excitation.proofs.Codes.{some_member}
-use Rattle.block.specs.declared.ReadAnswer.TheVariants as answer
-use Rattle.block.specs.declared.Refusal.{Refusal}
-use Rattle.block.specs.declared.Verdict.{Verdict}
-use Rattle.block.specs.declared.Verdict.TheVariants.{Accepted, Refused}
+use Rattle.block.specs.declared.verdict.Refusal.{Refusal}
 use Rattle.block.specs.Record.{File, HasRecord, net_count, allowed, is_input}
 use Rattle.block.specs.Block.{arrival_from, arrivals, arrival, inputs_below, input_count}
 use Rattle.block.specs.Verdict.{verdict}
@@ -30,14 +31,14 @@ use Rattle.block.proofs.Verdicts.{passed, both_accepted}
 use Rattle.block.proofs.Fields.{gate_record_lem, input_record_lem}
 
 -- Counts are the answer to an accepted file alone, and a refusal to a refused one.
-pub counts_of : (file : File) (v : Verdict) (nets inputs : ℕ) → answer_to file v ≡ answer.Counts nets inputs
+pub counts_of : (file : File) (v : Verdict) (nets inputs : ℕ) → answer_to file v ≡ Ok (counts nets inputs)
     → (v ≡ Accepted) × (net_count file ≡ nets) × (input_count file ≡ inputs)
-counts_of file Accepted nets inputs e = (refl, cc, cc)
-counts_of file (Refused r) nets inputs e = absurd (let z : ◌≡◌ {A = ℕ} 0 1 = cc in omega arith)
+counts_of file (Ok _) nets inputs e = let same : counts (net_count file) (input_count file) ≡ counts nets inputs = cc in (refl, ap (λ c. c.nets) same, ap (λ c. c.inputs) same)
+counts_of file (Err r) nets inputs e = absurd (let z : ◌≡◌ {A = ℕ} 0 1 = cc in omega arith)
 
-pub refused_verdict : (file : File) (v : Verdict) (r : Refusal) → answer_to file v ≡ answer.Refused r → v ≡ Refused r
-refused_verdict file Accepted r e = absurd (let z : ◌≡◌ {A = ℕ} 0 1 = cc in omega arith)
-refused_verdict file (Refused s) r e = let z : s ≡ r = cc in ap Refused z
+pub refused_verdict : (file : File) (v : Verdict) (r : Refusal) → answer_to file v ≡ Err r → v ≡ Err r
+refused_verdict file (Ok _) r e = absurd (let z : ◌≡◌ {A = ℕ} 0 1 = cc in omega arith)
+refused_verdict file (Err s) r e = let z : s ≡ r = cc in ap Err z
 
 -- Every record of an accepted file was accepted.
 each_record : (file : File) (n first : ℕ) → verdict (records_from file first n) ≡ Accepted
@@ -55,7 +56,7 @@ module _ (file : File) (net : ℕ) (judged : verdict (record_checks file net) �
 
   pub arrival_in_time_lem : arrival file net ≤ 255
   unfolding record_checks arrival_in_time
-  arrival_in_time_lem = leb-true _ _ (passed 10 net _ [] (both_accepted (field_checks file net) _ judged).1).0
+  arrival_in_time_lem = leb-true _ _ (passed LateArrival net _ [] (both_accepted (field_checks file net) _ judged).1).0
 
   placed : is_input file net ≡ true → (all_below net (is_input file) ≡ true) × (inputs_below file net < 64)
   unfolding input_in_place
@@ -102,7 +103,7 @@ module _ (file : File) (nets : ℕ) (judged : (net : ℕ) → net < nets → ver
           let c : inputs_below file n ≡ n = count_of_all n (is_input file) p.0 in
           omega arith
 
-pub accepted : (file : File) (nets inputs : ℕ) → read_of file ≡ answer.Counts nets inputs → AcceptedFile file nets inputs
+pub accepted : (file : File) (nets inputs : ℕ) → read_of file ≡ Ok (counts nets inputs) → AcceptedFile file nets inputs
 unfolding read_of read_checks inputs_below
 accepted file nets inputs e =
     let v = counts_of file (verdict (read_checks file)) nets inputs e in

@@ -1,5 +1,7 @@
 -- What checks 4 to 9 leave true of a record.
 -- Assumes nothing.
+use Rattle.block.specs.declared.verdict.Reason.TheVariants.{UnknownKind, MisplacedInput, WrongPinCount, StrayByte, PinNotBelow, OutOfRange}
+use Rattle.block.specs.Verdict.{Verdict, Accepted}
 use Prim.Native.Nat.{ℕ, ◌+◌, ◌≤◌}
 use mathlib.Core.Path.{◌≡◌, refl, sym, ◌∙◌}
 use mathlib.Core.List.{[]}
@@ -11,16 +13,14 @@ use borrow.Author.Tests.{leb-true, ltb-true, eqb-true, eqb-false, eq-eqb, ne_eqb
 use Rattle.laws.specs.Below.{all_below}
 use Rattle.laws.proofs.Tests.{and_left, and_right}
 use Rattle.laws.proofs.Below.{all_at, all_of_count, not_all_of_count}
-use Rattle.block.specs.declared.Verdict.{Verdict}
-use Rattle.block.specs.declared.Verdict.TheVariants.{Accepted}
 use Rattle.block.specs.Record.{File, byte_at, kind, allowed, contact, delay, pin_count, pin, rise, fall, is_input}
 use Rattle.block.specs.Kind.{Kind, NONE, INPUT, AND, NAND, OR, NOR, XOR, XNOR, NOT, BUF, kind_of, rule_of}
 use Rattle.block.specs.Block.{inputs_below}
-use Rattle.block.specs.Verdict.{check, verdict, also}
+use Rattle.block.specs.Verdict.{verdict}
 use Rattle.block.specs.Refusals.{within, kind_known, input_in_place, pin_count_right, zero_bytes, input_spare_zero, pins_below, gate_in_range, input_in_range, input_checks, gate_checks, field_checks}
 use Rattle.block.specs.Accepted.{InputRecord, InRanges, GateRecord}
 use Rattle.block.specs.View.{gate_of}
-use Rattle.block.proofs.Verdicts.{all_passed, more_by, passed, listed, listing}
+use Rattle.block.proofs.Verdicts.{passed, listed, listing}
 use Rattle.block.proofs.Views.{pin_of_lem}
 
 pub within_low : (low high x : ℕ) → within low high x ≡ true → low ≤ x
@@ -61,18 +61,12 @@ pins_low file net t =
     let low = within_low _ _ _ t in
     omega arith
 
-pins_high : (file : File) (net : ℕ) → pin_count_right file net ≡ true → pin_count file net ≤ 4
+pub pins_high : (file : File) (net : ℕ) → pin_count_right file net ≡ true → pin_count file net ≤ 4
 unfolding pin_count_right
 pins_high file net t =
     let bounds = rule_bounds (kind_of (kind file net)) in
     let high = within_high _ _ _ t in
     omega arith
-
--- Check 6 passed, where the code's own test s is the definition's.
-pub pins_few : (file : File) (net : ℕ) {v : Verdict} {s : Bool} → v ≡ also Accepted (check 6 net s) → s ≡ pin_count_right file net → v ≡ Accepted
-    → pin_count file net ≤ 4
-pins_few file net judged same told =
-    pins_high file net (passed 6 net (pin_count_right file net) [] (sym (more_by [] 6 net all_passed judged same) ∙ told)).0
 
 -- Kind 1 is an input, and any other kind a gate.
 pub is_input_lem : (file : File) (net : ℕ) → kind file net ≡ 1 → is_input file net ≡ true
@@ -111,10 +105,10 @@ pub gate_record_lem : (file : File) (net : ℕ) → verdict (field_checks file n
 unfolding field_checks kind_known gate_checks pins_below gate_of
 gate_record_lem file net e g =
     let here = rw g at e in
-    let known : within 1 9 (kind file net) ≡ true = listed _ here 4 net _ (search listing) in
-    let counted : pin_count_right file net ≡ true = listed _ here 6 net _ (search listing) in
-    let below = listed _ here 8 net (pins_below file net) (search listing) in
-    let ranges : InRanges (contact file net) (delay file net) (rise file net) (fall file net) = gate_ranges (listed _ here 9 net _ (search listing)) in
+    let known : within 1 9 (kind file net) ≡ true = listed _ here UnknownKind net _ (search listing) in
+    let counted : pin_count_right file net ≡ true = listed _ here WrongPinCount net _ (search listing) in
+    let below = listed _ here PinNotBelow net (pins_below file net) (search listing) in
+    let ranges : InRanges (contact file net) (delay file net) (rise file net) (fall file net) = gate_ranges (listed _ here OutOfRange net _ (search listing)) in
     let low = within_low _ _ _ known in
     let not_one = gate_kind file net g in
     record {
@@ -136,7 +130,7 @@ pub input_record_lem : (file : File) (net : ℕ) → verdict (field_checks file 
 unfolding field_checks input_checks input_in_range
 input_record_lem file net e g =
     let here = rw g at e in
-    let range : within 1 15 (allowed file net) ≡ true = listed _ here 9 net _ (search listing) in
-    let place : input_in_place file net ≡ true = listed _ here 5 net _ (search listing) in
-    let spare : input_spare_zero file net ≡ true = listed _ here 7 net _ (search listing) in
+    let range : within 1 15 (allowed file net) ≡ true = listed _ here OutOfRange net _ (search listing) in
+    let place : input_in_place file net ≡ true = listed _ here MisplacedInput net _ (search listing) in
+    let spare : input_spare_zero file net ≡ true = listed _ here StrayByte net _ (search listing) in
     (record { input = g; no_pins = spare_pins file net spare; allowed_low = within_low _ _ _ range; allowed_high = within_high _ _ _ range }, place)

@@ -1,8 +1,11 @@
 -- Laws of the checks on one record after the other, as the reader makes them.
 -- Assumes nothing.
+use Rattle.std.specs.Prelude.{Err}
+use Rattle.block.specs.Verdict.{Verdict, Accepted}
+use Rattle.block.specs.declared.verdict.Reason.TheVariants.{LateArrival}
 use Prim.Native.Nat.{ℕ, suc, ◌+◌, ◌-◌, ◌≤◌, ◌<◌}
 use mathlib.Core.Path.{◌≡◌, refl, sym, ap, ◌∙◌}
-use mathlib.Core.List.{List, ◌++◌}
+use mathlib.Core.List.{List, [], ◌∷◌, ◌++◌}
 use native.Mathlib.Omega.{arith}
 use native.Mathlib.Numerals.{add-one}
 use lib.Dec.{leb}
@@ -11,14 +14,12 @@ use lib.Seq.{take-suc-set}
 use Rattle.laws.specs.Below.{indicator}
 use Rattle.laws.proofs.Below.{count_next}
 use Rattle.laws.proofs.Turn.{turn_next}
-use Rattle.block.specs.declared.Refusal.{Refusal}
-use Rattle.block.specs.declared.Verdict.{Verdict}
-use Rattle.block.specs.declared.Verdict.TheVariants.{Accepted, Refused}
+use Rattle.block.specs.declared.verdict.Refusal.{Refusal}
 use Rattle.block.specs.Record.{File, is_input}
 use Rattle.block.specs.Block.{arrival_from, arrivals, arrival, inputs_below}
-use Rattle.block.specs.Verdict.{check, verdict, also}
+use Rattle.block.specs.Verdict.{check, verdict}
 use Rattle.block.specs.Refusals.{arrival_in_time, field_checks, record_checks, records_from}
-use Rattle.block.proofs.Verdicts.{all_passed, more_by, refused_first, accepted_first}
+use Rattle.block.proofs.Verdicts.{all_passed, refused_first, accepted_first}
 
 -- What the reader keeps, after one net more.
 
@@ -36,14 +37,14 @@ arrived_next file net earlier a h e v =
 
 -- The verdict on a record, from that on its fields and its arrival.
 module _ (file : File) (net : ℕ) where
-  pub fields_refused : (r : Refusal) → verdict (field_checks file net) ≡ Refused r → verdict (record_checks file net) ≡ Refused r
+  pub fields_refused : (r : Refusal) → verdict (field_checks file net) ≡ Err r → verdict (record_checks file net) ≡ Err r
   unfolding record_checks
   fields_refused r e = refused_first (field_checks file net) _ r e
 
-  pub record_judged : {a : ℕ} {fields answer : Verdict} → fields ≡ verdict (field_checks file net) → a ≡ arrival file net
-      → answer ≡ also fields (check 10 net (leb a 255)) → answer ≡ verdict (record_checks file net)
+  pub record_judged : {a : ℕ} {answer : Verdict} → verdict (field_checks file net) ≡ Accepted → a ≡ arrival file net
+      → answer ≡ verdict (check LateArrival net (leb a 255) ∷ []) → answer ≡ verdict (record_checks file net)
   unfolding record_checks arrival_in_time
-  record_judged passed e f = more_by (field_checks file net) 10 net passed f (ap (λ n. leb n 255) e)
+  record_judged passed e f = f ∙ ap (λ n. verdict (check LateArrival net (leb n 255) ∷ [])) e ∙ sym (accepted_first (field_checks file net) _ passed)
 
 -- The verdict on the records from a net on, by that on its own.
 module _ (file : File) (net nets : ℕ) where
@@ -51,8 +52,8 @@ module _ (file : File) (net nets : ℕ) where
   unfolding records_from
   first_of h = let e : nets - net ≡ suc (nets - (net + 1)) = omega arith in rw (e, add-one net) refl
 
-  pub records_refused : net < nets → (r : Refusal) → verdict (record_checks file net) ≡ Refused r
-      → verdict (records_from file net (nets - net)) ≡ Refused r
+  pub records_refused : net < nets → (r : Refusal) → verdict (record_checks file net) ≡ Err r
+      → verdict (records_from file net (nets - net)) ≡ Err r
   records_refused h r e = ap verdict (first_of h) ∙ refused_first (record_checks file net) _ r e
 
   pub records_next : net < nets → verdict (record_checks file net) ≡ Accepted

@@ -1,8 +1,10 @@
 -- Document 01's blocks S and F, a block of our own and gates of three pins, and what the definitions say of them.
+use Rattle.std.specs.Prelude.{Ok, Err}
+use Rattle.block.specs.declared.verdict.Reason.TheVariants.{WrongLength, NoFirstInput, PinNotBelow}
+use Rattle.block.specs.Refusals.{counts}
 use Rattle.std.specs.Prelude.{◌≡◌, [], ◌∷◌, map, replicate}
 use Rattle.excitation.specs.Excitation.{l, h, lh}
 use Rattle.excitation.specs.UncertaintySet.{code, decode}
-use Rattle.block.specs.declared.ReadAnswer.TheVariants as answer
 use Rattle.block.specs.Record.{File, contact, peak_lh, peak_hl}
 use Rattle.block.specs.Kind.{NAND, NOR, XNOR, rule_of}
 use Rattle.block.specs.Gate.{gate_excitation, gate_set}
@@ -45,12 +47,12 @@ two_faults =
 
 pub record BlockExamples : Type 0 where
   -- Read.
-  pub read_S : read_of block_s ≡ answer.Counts 3 1
-  pub read_F : read_of block_f ≡ answer.Counts 4 2
-  pub read_R : read_of block_r ≡ answer.Counts 6 3
-  pub read_empty : read_of [] ≡ answer.Refused (refusal 3 0)
-  pub read_19 : read_of (replicate 19 0) ≡ answer.Refused (refusal 1 0)
-  pub read_faults : read_of two_faults ≡ answer.Refused (refusal 8 1)
+  pub read_S : read_of block_s ≡ Ok (counts 3 1)
+  pub read_F : read_of block_f ≡ Ok (counts 4 2)
+  pub read_R : read_of block_r ≡ Ok (counts 6 3)
+  pub read_empty : read_of [] ≡ Err (refusal NoFirstInput 0)
+  pub read_19 : read_of (replicate 19 0) ≡ Err (refusal WrongLength 0)
+  pub read_faults : read_of two_faults ≡ Err (refusal PinNotBelow 1)
   -- Contacts and peaks, arrivals, the frame and N.
   pub fields_F : (contact block_f 3 ≡ 1) × (peak_lh block_f 3 ≡ 30) × (peak_hl block_f 3 ≡ 31)
   pub fields_R : (contact block_r 3 ≡ 2) × (peak_lh block_r 3 ≡ 258) × (peak_hl block_r 3 ≡ 515)

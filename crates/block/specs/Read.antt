@@ -1,7 +1,6 @@
 -- What the reader's parts promise of the arrivals that they pass on.
+use Rattle.block.specs.Verdict.{Verdict, Accepted}
 use Rattle.std.specs.Prelude.{ℕ, ◌+◌, ◌≡◌, List, length, take}
-use Rattle.block.specs.declared.Verdict.{Verdict}
-use Rattle.block.specs.declared.Verdict.TheVariants.{Accepted}
 use Rattle.block.specs.Record.{File}
 use Rattle.block.specs.Block.{arrivals, inputs_below}
 use Rattle.block.specs.Verdict.{verdict}

@@ -1,10 +1,11 @@
 -- Checks 1 to 10, and Read (document 01, "Refusals in checking order").
+use Rattle.std.specs.Prelude.{Result, Ok, Err}
+use Rattle.block.specs.Verdict.{Verdict}
+use Rattle.block.specs.declared.verdict.Reason.TheVariants.{WrongLength, TooManyRecords, NoFirstInput, UnknownKind, MisplacedInput, WrongPinCount, StrayByte, PinNotBelow, OutOfRange, LateArrival}
+use Rattle.block.specs.declared.Counts.{Counts}
+use Rattle.block.specs.declared.verdict.Refusal.{Refusal}
 use Rattle.std.specs.Prelude.{ℕ, zero, suc, ◌+◌, ◌-◌, ◌%◌, Bool, cond, ◌&&◌, List, [], ◌∷◌, ◌++◌, eqb, leb, ltb, length}
 use Rattle.laws.specs.Below.{all_below}
-use Rattle.block.specs.declared.Verdict.TheVariants as verdict_is
-use Rattle.block.specs.declared.ReadAnswer.TheVariants as answer
-use Rattle.block.specs.declared.Verdict.{Verdict}
-use Rattle.block.specs.declared.ReadAnswer.{ReadAnswer}
 use Rattle.block.specs.Record.{File, net_count, byte_at, kind, contact, delay, pin_count, pin, rise, fall, allowed, is_input}
 use Rattle.block.specs.Kind.{kind_of, rule_of}
 use Rattle.block.specs.Block.{arrival, inputs_below, input_count}
@@ -28,9 +29,9 @@ starts_with_input file = leb 1 (net_count file) && is_input file 0
 -- 2. There are more than 1,024 records.
 unfoldable pub file_checks : File → List Check
 file_checks file =
-    check 1 0 (eqb (length file % 20) 0)
-    ∷ check 2 0 (leb (net_count file) 1024)
-    ∷ check 3 0 (starts_with_input file)
+    check WrongLength 0 (eqb (length file % 20) 0)
+    ∷ check TooManyRecords 0 (leb (net_count file) 1024)
+    ∷ check NoFirstInput 0 (starts_with_input file)
     ∷ []
 
 -- 4. The kind is 0 or above 9.
@@ -77,25 +78,25 @@ arrival_in_time file net = leb (arrival file net) 255
 -- The checks on an input, and on a gate, after the kind's.
 unfoldable pub input_checks : File → ℕ → List Check
 input_checks file net =
-    check 5 net (input_in_place file net)
-    ∷ check 7 net (input_spare_zero file net)
-    ∷ check 9 net (input_in_range file net)
+    check MisplacedInput net (input_in_place file net)
+    ∷ check StrayByte net (input_spare_zero file net)
+    ∷ check OutOfRange net (input_in_range file net)
     ∷ []
 
 unfoldable pub gate_checks : File → ℕ → List Check
 gate_checks file net =
-    check 6 net (pin_count_right file net)
-    ∷ check 7 net (gate_spare_zero file net)
-    ∷ check 8 net (pins_below file net)
-    ∷ check 9 net (gate_in_range (contact file net) (delay file net) (rise file net) (fall file net))
+    check WrongPinCount net (pin_count_right file net)
+    ∷ check StrayByte net (gate_spare_zero file net)
+    ∷ check PinNotBelow net (pins_below file net)
+    ∷ check OutOfRange net (gate_in_range (contact file net) (delay file net) (rise file net) (fall file net))
     ∷ []
 
 -- The checks on a record, 4 to 10.
 unfoldable pub field_checks : File → ℕ → List Check
-field_checks file net = check 4 net (kind_known file net) ∷ cond (is_input file net) (input_checks file net) (gate_checks file net)
+field_checks file net = check UnknownKind net (kind_known file net) ∷ cond (is_input file net) (input_checks file net) (gate_checks file net)
 
 unfoldable pub record_checks : File → ℕ → List Check
-record_checks file net = field_checks file net ++ (check 10 net (arrival_in_time file net) ∷ [])
+record_checks file net = field_checks file net ++ (check LateArrival net (arrival_in_time file net) ∷ [])
 
 -- The checks on n records from a net on, 4 to 10 on one before the next.
 unfoldable pub records_from : File → ℕ → ℕ → List Check
@@ -106,11 +107,15 @@ records_from file net (suc n) = record_checks file net ++ records_from file (suc
 unfoldable pub read_checks : File → List Check
 read_checks file = file_checks file ++ records_from file 0 (net_count file)
 
+-- So many nets and inputs.
+abbrev pub counts : ℕ → ℕ → Counts
+counts nets inputs = record { nets = nets; inputs = inputs }
+
 -- What a verdict on the file comes to: the counts of nets and inputs, or the refusal.
-abbrev pub answer_to : File → Verdict → ReadAnswer
-answer_to file verdict_is.Accepted = answer.Counts (net_count file) (input_count file)
-answer_to file (verdict_is.Refused r) = answer.Refused r
+abbrev pub answer_to : File → Verdict → Result Counts Refusal
+answer_to file (Ok _) = Ok (counts (net_count file) (input_count file))
+answer_to file (Err r) = Err r
 
 -- Document 01's Read: takes the file and returns its counts of nets and inputs.
-unfoldable pub read_of : File → ReadAnswer
+unfoldable pub read_of : File → Result Counts Refusal
 read_of file = answer_to file (verdict (read_checks file))

@@ -5,7 +5,7 @@ ghost use Rattle.block.specs.Block.{inputs_below};
 ghost use Rattle.block.specs.Verdict.{verdict};
 ghost use Rattle.block.specs.Refusals.{within, zero_bytes, starts_with_input, input_spare_zero, unused_pins_zero, gate_spare_zero, pin_count_right, pins_below, gate_in_range, input_checks, gate_checks, field_checks};
 
-use super::{Net, Verdict, kind, record};
+use super::{Net, Reason, Refusal, check, kind, record};
 
 // Whether x is low to high.
 pub fn in_range(x: usize, low: usize, high: usize) -> bool
@@ -115,47 +115,46 @@ fn record_in_range(file: &[u8], net: Net) -> bool
 }
 
 // Checks 5, 7 and 9 of an input, given how many inputs stand below it.
-fn check_input(file: &[u8], net: Net, inputs: usize) -> Verdict
+fn check_input(file: &[u8], net: Net, inputs: usize) -> Result<(), Refusal>
     requires { HasRecord file.now net.0 × (inputs ≡ inputs_below file.now net.0) }
     ensures { result ≡ verdict (input_checks file.now net.0) }
 {
     let place = net.0 as u64;
-    Verdict::Accepted
-        .also(5, place, (inputs == net.0) & (inputs < 64))
-        .also(7, place, input_spare_zero(file, net))
-        .also(9, place, in_range(record::allowed(file, net), 1, 15))
+    check(
+        Reason::MisplacedInput,
+        place,
+        (inputs == net.0) & (inputs < 64),
+    )?;
+    check(Reason::StrayByte, place, input_spare_zero(file, net))?;
+    check(
+        Reason::OutOfRange,
+        place,
+        in_range(record::allowed(file, net), 1, 15),
+    )
 }
 
 // Checks 6 to 9 of a gate. Only a right pin count lets its pins be read.
-fn check_gate(file: &[u8], net: Net) -> Verdict
+fn check_gate(file: &[u8], net: Net) -> Result<(), Refusal>
     requires { HasRecord file.now net.0 }
     ensures { result ≡ verdict (gate_checks file.now net.0) }
 {
     let place = net.0 as u64;
-    let counted = Verdict::Accepted.also(6, place, pin_count_right(file, net));
-    match counted {
-        Verdict::Refused(r) => Verdict::Refused(r),
-        Verdict::Accepted => counted
-            .also(7, place, gate_spare_zero(file, net))
-            .also(8, place, pins_below(file, net))
-            .also(9, place, record_in_range(file, net)),
-    }
+    check(Reason::WrongPinCount, place, pin_count_right(file, net))?;
+    check(Reason::StrayByte, place, gate_spare_zero(file, net))?;
+    check(Reason::PinNotBelow, place, pins_below(file, net))?;
+    check(Reason::OutOfRange, place, record_in_range(file, net))
 }
 
 // Checks 4 to 9, given how many inputs stand below the net.
-pub fn check_fields(file: &[u8], net: Net, inputs: usize) -> Verdict
+pub fn check_fields(file: &[u8], net: Net, inputs: usize) -> Result<(), Refusal>
     requires { HasRecord file.now net.0 × (inputs ≡ inputs_below file.now net.0) }
     ensures { result ≡ verdict (field_checks file.now net.0) }
 {
     let kind = record::kind(file, net);
-    match Verdict::Accepted.also(4, net.0 as u64, in_range(kind, 1, 9)) {
-        Verdict::Refused(r) => Verdict::Refused(r),
-        Verdict::Accepted => {
-            if kind == 1 {
-                check_input(file, net, inputs)
-            } else {
-                check_gate(file, net)
-            }
-        }
+    check(Reason::UnknownKind, net.0 as u64, in_range(kind, 1, 9))?;
+    if kind == 1 {
+        check_input(file, net, inputs)
+    } else {
+        check_gate(file, net)
     }
 }

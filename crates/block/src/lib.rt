@@ -4,17 +4,19 @@
 ghost use Rattle.std.specs.Prelude.{◌≡◌, ◌*◌, ◌≤◌, ◌<◌, length};
 ghost use Rattle.laws.specs.Rewritten.{Rewritten};
 ghost use Rattle.block.specs.Record.{allowed};
-ghost use Rattle.block.specs.Verdict.{check, verdict, also};
+ghost use Rattle.block.specs.Verdict.{verdict};
 ghost use Rattle.block.specs.Refusals.{file_checks, read_of};
 
 mod checks;
 mod kind;
 mod reader;
 pub mod record;
+mod verdict;
 pub mod view;
 
 pub use checks::{gate_in_range, in_range};
 pub use kind::{Rule, gate_rule};
+pub use verdict::{Reason, Refusal, check};
 
 // A net's number: the position of its record in the file.
 #[derive(Clone, Copy)]
@@ -50,64 +52,29 @@ pub struct Gate {
     pub peaks: Peaks,
 }
 
-// Document 01's refusal.
-#[derive(Clone, Copy)]
-pub struct Refusal {
-    pub number: u64,
-    pub place: u64,
-}
-
-// What a list of checks comes to.
-#[derive(Clone, Copy)]
-pub enum Verdict {
-    Accepted,
-    Refused(Refusal),
-}
-
-impl Verdict {
-    // One check more: a refusal stands, and an acceptance leaves the verdict to the check.
-    pub fn also(self, number: u64, place: u64, passes: bool) -> Verdict
-        ensures { result ≡ also self (check number place passes) }
-    {
-        match self {
-            Verdict::Refused(r) => Verdict::Refused(r),
-            Verdict::Accepted => {
-                if passes {
-                    Verdict::Accepted
-                } else {
-                    Verdict::Refused(Refusal { number, place })
-                }
-            }
-        }
-    }
-}
-
-// What Read answers.
-#[derive(Clone, Copy)]
-pub enum ReadAnswer {
-    Counts { nets: u64, inputs: u64 },
-    Refused(Refusal),
+// What Read answers: how many nets a block has, and how many of them are inputs.
+#[derive(Clone, Copy, PartialEq, Eq)]
+pub struct Counts {
+    pub nets: u64,
+    pub inputs: u64,
 }
 
 // Checks 1 to 3, on the whole file.
-fn check_file(file: &[u8]) -> Verdict
+fn check_file(file: &[u8]) -> Result<(), Refusal>
     ensures { result ≡ verdict (file_checks file.now) }
 {
     let length = file.len();
-    Verdict::Accepted
-        .also(1, 0, length % 20 == 0)
-        .also(2, 0, length / 20 <= 1024)
-        .also(3, 0, checks::starts_with_input(file))
+    check(Reason::WrongLength, 0, length % 20 == 0)?;
+    check(Reason::TooManyRecords, 0, length / 20 <= 1024)?;
+    check(Reason::NoFirstInput, 0, checks::starts_with_input(file))
 }
 
 // Read: checks 1 to 10, and the counts of nets and inputs.
-pub fn read(file: &[u8]) -> ReadAnswer
+pub fn read(file: &[u8]) -> Result<Counts, Refusal>
     ensures { result ≡ read_of file.now }
 {
-    match check_file(file) {
-        Verdict::Refused(r) => ReadAnswer::Refused(r),
-        Verdict::Accepted => reader::check_records(file, file.len() / 20),
-    }
+    check_file(file)?;
+    reader::check_records(file, file.len() / 20)
 }
 
 // Writes the codes of the frame's sets, a byte for each input.

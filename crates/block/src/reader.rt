@@ -1,16 +1,15 @@
 // Checks 4 to 10 on a record, and the records of a file in order.
 ghost use Rattle.std.specs.Prelude.{◌≡◌, ◌<◌, ◌≤◌, take};
 ghost use Rattle.laws.specs.Below.{indicator};
-ghost use Rattle.block.specs.declared.Verdict.TheVariants.{Accepted};
 ghost use Rattle.block.specs.Record.{HasRecord, net_count, is_input};
 ghost use Rattle.block.specs.Block.{latest_pin, arrival_from};
-ghost use Rattle.block.specs.Verdict.{verdict};
+ghost use Rattle.block.specs.Verdict.{Accepted, verdict};
 ghost use Rattle.block.specs.Refusals.{field_checks, records_from, answer_to};
 ghost use Rattle.block.specs.Accepted.{GateRecord};
 ghost use Rattle.block.specs.Read.{Known, RecordChecked};
 ghost use Rattle.block.specs.View.{gate_of};
 
-use super::{Net, ReadAnswer, Verdict, checks, record};
+use super::{Counts, Net, Reason, Refusal, check, checks, record};
 
 // The greatest arrival of a gate's pins.
 fn latest_pin(file: &[u8], net: Net, earlier: &[u8; 1024]) -> usize
@@ -40,18 +39,20 @@ fn arrival(file: &[u8], net: Net, earlier: &[u8; 1024]) -> usize
 }
 
 // Checks 4 to 10. An accepted record's arrival is put beside those of the nets below it.
-fn check_record(file: &[u8], net: Net, inputs: usize, arrivals: &mut [u8; 1024]) -> Verdict
+fn check_record(
+    file: &[u8],
+    net: Net,
+    inputs: usize,
+    arrivals: &mut [u8; 1024],
+) -> Result<(), Refusal>
     requires { HasRecord file.now net.0 × Known file.now net.0 inputs arrivals.old }
     ensures { RecordChecked file.now net.0 result arrivals.new }
 {
-    let fields = checks::check_fields(file, net, inputs);
-    if let Verdict::Refused(r) = fields {
-        return Verdict::Refused(r);
-    }
+    checks::check_fields(file, net, inputs)?;
     let a = arrival(file, net, arrivals);
     let at = net.0;
     arrivals[at] = (a % 256) as u8;
-    fields.also(10, at as u64, a <= 255)
+    check(Reason::LateArrival, at as u64, a <= 255)
 }
 
 // 1 for an input, 0 for a gate.
@@ -63,21 +64,18 @@ fn input_indicator(file: &[u8], net: Net) -> usize
 }
 
 // Checks 4 to 10 on the records of a file, by net number.
-pub fn check_records(file: &[u8], nets: usize) -> ReadAnswer
+pub fn check_records(file: &[u8], nets: usize) -> Result<Counts, Refusal>
     requires { (nets ≡ net_count file.now) × (nets ≤ 1024) }
     ensures { result ≡ answer_to file.now (verdict (records_from file.now 0 nets)) }
 {
     let mut arrivals = [0u8; 1024];
     let mut inputs: usize = 0;
     for net in 0..nets {
-        let checked = check_record(file, Net(net), inputs, &mut arrivals);
-        if let Verdict::Refused(r) = checked {
-            return ReadAnswer::Refused(r);
-        }
+        check_record(file, Net(net), inputs, &mut arrivals)?;
         inputs += input_indicator(file, Net(net));
     }
-    ReadAnswer::Counts {
+    Ok(Counts {
         nets: nets as u64,
         inputs: inputs as u64,
-    }
+    })
 }

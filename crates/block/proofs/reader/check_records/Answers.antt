@@ -1,16 +1,18 @@
 -- `block::reader::check_records` meets its contract. The loop's invariant: what is known of the nets below, and that the verdict
 -- on the records from here on is the verdict on all of them.
 -- Assumes nothing.
+use Rattle.std.specs.Prelude.{Ok}
+use Rattle.block.specs.Refusals.{counts}
 use Prim.Native.Nat.{◌+◌, ◌-◌}
 use mathlib.Core.Path.{◌≡◌, refl, sym, ap, ap₂, ◌∙◌}
 use native.Mathlib.Omega.{arith}
 use borrow.Author.Rules.{rules}
 use Rattle.laws.specs.Below.{count_below}
 use Rattle.laws.specs.Turn.{in_turn}
-use Rattle.block.specs.declared.ReadAnswer.TheVariants as answer
 use Rattle.block.specs.Record.{net_count}
 use Rattle.block.specs.Block.{arrivals, inputs_below}
 use Rattle.block.specs.Refusals.{answer_to}
+use Rattle.block.proofs.Verdicts.{handed_on}
 use Rattle.block.proofs.Records.{counted_next, records_refused, records_next, records_end}
 use Rattle.block.proofs.reader.check_records.Goals as goal
 
@@ -20,20 +22,20 @@ loop-net-init c =
     let e : c.args.nets - 0 ≡ c.args.nets = omega arith in
     (search rules, search rules, record { counted = refl; sized = refl; arrived = refl }, rw e refl)
 
-pub check_record-checked-requires : goal.check_record-checked-requires
-check_record-checked-requires c = (omega arith, c.loop-net.invariant.2)
+pub check_record-requires : goal.check_record-requires
+check_record-requires c = (omega arith, c.loop-net.invariant.2)
 
-pub returns-in-Refused : goal.returns-in-Refused
-returns-in-Refused c =
+pub returns-in_err-check_record : goal.returns-in_err-check_record
+returns-in_err-check_record c =
     let l = c.loop-net in
-    let refusal = sym c.check_record-checked.ensures.judged ∙ c.in-Refused.is in
-    ap (answer_to _) (sym (records_refused _ _ _ c.loop-net-test.true _ refusal) ∙ l.invariant.3)
+    let refusal = sym c.check_record.ensures.judged ∙ c.in_err-check_record.was in
+    handed_on c.from_residual.ensures.1 (ap (answer_to c.args.file.now) (sym (records_refused _ _ _ c.loop-net-test.true _ refusal) ∙ l.invariant.3))
 
 pub loop-net-preserved : goal.loop-net-preserved
 loop-net-preserved c =
     let l = c.loop-net in
-    let checked = c.check_record-checked.ensures in
-    let told = c.in_default.is in
+    let checked = c.check_record.ensures in
+    let told = c.in_ok-check_record.was in
     let counted = ap (λ n. l.inputs + n) c.input_indicator-inputs.ensures.0 ∙ counted_next _ _ _ l.invariant.2.counted in
     let within = c.loop-net-test.true in
     let rest = records_next _ _ _ within (sym checked.judged ∙ told) ∙ l.invariant.3 in
@@ -43,5 +45,5 @@ pub returns : goal.returns
 returns c =
     let l = c.loop-net in
     let n : l.net ≡ net_count c.args.file.now = omega arith in
-    ap₂ answer.Counts c.requires.0 (l.invariant.2.counted ∙ ap (inputs_below c.args.file.now) n)
+    ap₂ (λ m i. Ok (counts m i)) c.requires.0 (l.invariant.2.counted ∙ ap (inputs_below c.args.file.now) n)
     ∙ ap (answer_to _) (sym (records_end _ _ _ c.loop-net-test.false) ∙ l.invariant.3)
