@@ -1,11 +1,10 @@
 -- Lists of inputs in the order to be split (request 6): check 19, and what a maker of a list answers.
+use Rattle.std.specs.Prelude.{Result, Ok, Err}
+use Rattle.block.specs.declared.verdict.Reason.TheVariants.{WrongOrder}
+use Rattle.block.specs.declared.verdict.Refusal.{Refusal}
 use Rattle.std.specs.Prelude.{ℕ, ◌+◌, ◌-◌, ◌<◌, Bool, ◌&&◌, List, [], ◌∷◌, ◌++◌, ◌≡◌, eqb, length, get_or, replicate}
 use Rattle.laws.specs.Below.{all_below, indicator}
 use Rattle.block.specs.Verdict.{Check, check}
-use Rattle.block.specs.declared.Verdict.{Verdict}
-use Rattle.block.specs.declared.Verdict.TheVariants.{Accepted, Refused}
-use Rattle.operation.specs.declared.OrderAnswer.{OrderAnswer}
-use Rattle.operation.specs.declared.OrderAnswer.TheVariants as answer
 use Rattle.operation.specs.declared.SplitOrder.{SplitOrder}
 
 -- How often a list names a net.
@@ -18,7 +17,7 @@ unfoldable pub names_each : ℕ → List ℕ → Bool
 names_each inputs order = eqb (length order) inputs && all_below inputs (λ net. eqb (times_named order net) 1)
 
 abbrev pub order_check : ℕ → List ℕ → Check
-order_check inputs order = check 19 0 (names_each inputs order)
+order_check inputs order = check WrongOrder 0 (names_each inputs order)
 
 -- What the search reads a list by: so many nets, each of them an input's.
 pub record NetsListed (inputs : ℕ) (order : List ℕ) : Type 0 where
@@ -29,12 +28,11 @@ pub record NetsListed (inputs : ℕ) (order : List ℕ) : Type 0 where
 unfoldable pub list_bytes : List ℕ → List ℕ
 list_bytes order = order ++ replicate (64 - length order) 0
 
--- A maker returns its list with the count of the inputs, or the refusal with an empty list.
-abbrev pub order_after : Verdict → List ℕ → SplitOrder
-order_after Accepted order = record { answer = answer.Inputs (length order); nets = list_bytes order }
-order_after (Refused r) order = record { answer = answer.Refused r; nets = list_bytes [] }
+-- A list with the count of the inputs that it names.
+abbrev pub split_order : List ℕ → SplitOrder
+split_order order = record { inputs = length order; nets = list_bytes order }
 
--- A lent list after a maker's call: the maker's where it answered with the count, as it was at a refusal.
-abbrev pub list_after : OrderAnswer → List ℕ → List ℕ → List ℕ
-list_after (answer.Inputs inputs) made given = made
-list_after (answer.Refused r) made given = given
+-- A lent list after a maker's call: the maker's where it answered with one, as it was at a refusal.
+abbrev pub list_after : Result SplitOrder Refusal → List ℕ → List ℕ
+list_after (Ok made) given = made.nets
+list_after (Err r) given = given

@@ -1,8 +1,6 @@
 // What the operations share: the checks of the arguments beside the file, and what they answer.
 #![tactic(auto)]
 
-use block::Refusal;
-
 pub mod arguments;
 pub mod pattern;
 pub mod split_order;
@@ -14,15 +12,8 @@ pub struct Currents {
     pub quiet: u64,
 }
 
-// What Envelope and Simulate answer.
-#[derive(Clone, Copy)]
-pub enum CurrentsAnswer {
-    Found(Currents),
-    Refused(Refusal),
-}
-
 // How a search ends.
-#[derive(Clone, Copy)]
+#[derive(Clone, Copy, PartialEq, Eq)]
 pub enum Outcome {
     Exact,
     Within,
@@ -40,23 +31,9 @@ pub struct Found {
     pub quiet: u64,
 }
 
-// What Search answers.
-#[derive(Clone, Copy)]
-pub enum SearchAnswer {
-    Found(Found),
-    Refused(Refusal),
-}
-
-// What a maker of a list of inputs in the order to be split answers: how many inputs the list names.
-#[derive(Clone, Copy)]
-pub enum OrderAnswer {
-    Inputs(u64),
-    Refused(Refusal),
-}
-
-// A maker's answer with its list: a byte for each input, its net; 0 past them, and 0 everywhere where the call is refused.
+// A maker's list of inputs in the order to be split: how many it names, and a byte for each, its net; 0 past them.
 #[derive(Clone, Copy)]
 pub struct SplitOrder {
-    pub answer: OrderAnswer,
+    pub inputs: u64,
     pub nets: [u8; 64],
 }

@@ -4,7 +4,7 @@ ghost use Rattle.block.specs.Record.{HasRecord};
 ghost use Rattle.block.specs.Verdict.{verdict};
 ghost use Rattle.operation.specs.Pattern.{byte_allowed, byte_checks};
 
-use block::{Net, Verdict, record};
+use block::{Net, Reason, Refusal, check, record};
 use excitation::Set;
 
 // Whether a pattern's byte is one that byte 18 of an input allows.
@@ -19,13 +19,13 @@ fn byte_allowed(file: &[u8], net: Net, byte: u8) -> bool
 }
 
 // Check 16, on the bytes of the inputs in order.
-pub fn check_pattern(file: &[u8], inputs: usize, pattern: &[u8]) -> Verdict
+pub fn check_pattern(file: &[u8], inputs: usize, pattern: &[u8]) -> Result<(), Refusal>
     requires { (20 * inputs ≤ length file.now) × (inputs ≤ 64) × (length pattern.now ≡ 64) }
     ensures { result ≡ verdict (byte_checks file.now pattern.now inputs) }
 {
-    let mut earlier = Verdict::Accepted;
     for net in 0..inputs {
-        earlier = earlier.also(16, net as u64, byte_allowed(file, Net(net), pattern[net]));
+        let allowed = byte_allowed(file, Net(net), pattern[net]);
+        check(Reason::WrongPatternByte, net as u64, allowed)?;
     }
-    earlier
+    Ok(())
 }

@@ -1,9 +1,9 @@
 // Check 19, of a list of inputs in the order to be split.
-ghost use Rattle.std.specs.Prelude.{◌≡◌, ◌≤◌, length};
-ghost use Rattle.block.specs.Verdict.{also};
+ghost use Rattle.std.specs.Prelude.{◌∷◌, [], ◌≡◌, ◌≤◌, length};
+ghost use Rattle.block.specs.Verdict.{verdict};
 ghost use Rattle.operation.specs.SplitOrder.{times_named, names_each, order_check};
 
-use block::{Net, Verdict};
+use block::{Net, Reason, Refusal, check};
 
 // How often a list names a net.
 fn times_named(order: &[u8], net: Net) -> usize
@@ -33,9 +33,9 @@ fn names_each(order: &[u8], inputs: usize) -> bool
     true
 }
 
-// Check 19. It takes the verdict on the earlier checks, and gives the verdict with its own check more.
-pub fn check_order(earlier: Verdict, inputs: usize, order: &[u8]) -> Verdict
-    ensures { result ≡ also earlier (order_check inputs order.now) }
+// Check 19.
+pub fn check_order(inputs: usize, order: &[u8]) -> Result<(), Refusal>
+    ensures { result ≡ verdict (order_check inputs order.now ∷ []) }
 {
-    earlier.also(19, 0, names_each(order, inputs))
+    check(Reason::WrongOrder, 0, names_each(order, inputs))
 }

@@ -3,4 +3,4 @@
 use Rattle.operation.proofs.arguments.check_ratio.Goals as goal
 
 pub returns : goal.returns
-returns c = rw c.in_range.ensures at c.also.ensures
+returns c = rw c.in_range.ensures at c.check.ensures

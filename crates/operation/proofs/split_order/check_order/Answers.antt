@@ -3,4 +3,4 @@
 use Rattle.operation.proofs.split_order.check_order.Goals as goal
 
 pub returns : goal.returns
-returns c = rw c.names_each.ensures at c.also.ensures
+returns c = rw c.names_each.ensures at c.check.ensures
