@@ -24,30 +24,6 @@ pub all_passed : Accepted ≡ verdict []
 unfolding verdict
 all_passed = refl
 
--- One check after the other, as code goes: s is the code's own test of a check, t the definition's.
-module _ (reason : Reason) (place : ℕ) {s t : Bool} {v : Verdict} (judged : v ≡ verdict (check reason place s ∷ [])) (same : s ≡ t) where
-  pub holds : v ≡ Accepted → t ≡ true
-  unfolding verdict
-  holds e = go s same judged
-    where
-      go : (s : Bool) → s ≡ t → v ≡ verdict (check reason place s ∷ []) → t ≡ true
-      go true h j = sym h
-      go false h j = apart _ (sym j ∙ e)
-
-  -- A refusal stands.
-  pub check_refused : (rest : List Check) (r : Refusal) → v ≡ Err r → Err r ≡ verdict (check reason place t ∷ rest)
-  unfolding verdict
-  check_refused rest r e = go s same judged
-    where
-      go : (s : Bool) → s ≡ t → v ≡ verdict (check reason place s ∷ []) → Err r ≡ verdict (check reason place t ∷ rest)
-      go true h j = apart r (sym e ∙ j)
-      go false h j = rw (← h) (sym e ∙ j)
-
-  -- What passes leaves the verdict to the checks after it.
-  pub check_passed : (rest : List Check) → v ≡ Accepted → verdict rest ≡ verdict (check reason place t ∷ rest)
-  unfolding verdict
-  check_passed rest e = rw (holds e) refl
-
 -- What a `?` hands on is the refusal that it found.
 pub handed_on : {T : Type 0} {x : Refusal} {r w : Result T Refusal} → IsErrAnd r (λ y. y ≡ x) → Err x ≡ w → r ≡ w
 handed_on a e = let p = err_from_is_err_and _ a in p.1 ∙ ap Err p.2 ∙ e
@@ -73,6 +49,28 @@ pub passed : (reason : Reason) (place : ℕ) (b : Bool) (rest : List Check) → 
 unfolding verdict
 passed reason place true rest e = (refl, e)
 passed reason place false rest e = apart _ e
+
+-- One check after the other, as code goes: the first one's refusal stands, and where it passes the verdict is left to the checks after it.
+module _ (c : Check) (rest : List Check) {v : Verdict} (judged : v ≡ verdict (c ∷ [])) where
+  pub first_refused : {r : Refusal} → v ≡ Err r → Err r ≡ verdict (c ∷ rest)
+  first_refused {r} e = sym (refused_first (c ∷ []) rest r (sym judged ∙ e))
+
+  pub first_passed : v ≡ Accepted → verdict rest ≡ verdict (c ∷ rest)
+  first_passed e = sym (accepted_first (c ∷ []) rest (sym judged ∙ e))
+
+-- The same where s is the code's own test of a check, and t the definition's.
+module _ (reason : Reason) (place : ℕ) {s t : Bool} {v : Verdict} (judged : v ≡ verdict (check reason place s ∷ [])) (same : s ≡ t) where
+  told : v ≡ verdict (check reason place t ∷ [])
+  told = judged ∙ ap (λ b. verdict (check reason place b ∷ [])) same
+
+  pub holds : v ≡ Accepted → t ≡ true
+  holds e = (passed reason place t [] (sym told ∙ e)).0
+
+  pub check_refused : (rest : List Check) (r : Refusal) → v ≡ Err r → Err r ≡ verdict (check reason place t ∷ rest)
+  check_refused rest r = first_refused (check reason place t) rest told
+
+  pub check_passed : (rest : List Check) → v ≡ Accepted → verdict rest ≡ verdict (check reason place t ∷ rest)
+  check_passed rest = first_passed (check reason place t) rest told
 
 pub both_accepted : (s t : List Check) → verdict (s ++ t) ≡ Accepted → (verdict s ≡ Accepted) × (verdict t ≡ Accepted)
 unfolding verdict

@@ -55,8 +55,8 @@ pub struct Gate {
 // What Read answers: how many nets a block has, and how many of them are inputs.
 #[derive(Clone, Copy, PartialEq, Eq)]
 pub struct Counts {
-    pub nets: u64,
-    pub inputs: u64,
+    pub nets: usize,
+    pub inputs: usize,
 }
 
 // Checks 1 to 3, on the whole file.

@@ -74,8 +74,5 @@ pub fn check_records(file: &[u8], nets: usize) -> Result<Counts, Refusal>
         check_record(file, Net(net), inputs, &mut arrivals)?;
         inputs += input_indicator(file, Net(net));
     }
-    Ok(Counts {
-        nets: nets as u64,
-        inputs: inputs as u64,
-    })
+    Ok(Counts { nets, inputs })
 }

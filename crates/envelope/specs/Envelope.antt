@@ -1,13 +1,15 @@
 -- Envelope (document 01, "Envelope" and "Refusals in checking order"): its checks, its answer and its buffers.
+use Rattle.std.specs.Prelude.{Result}
+use Rattle.block.specs.Verdict.{Verdict}
+use Rattle.block.specs.declared.verdict.Refusal.{Refusal}
 use Rattle.std.specs.Prelude.{ℕ, List, [], ◌∷◌, ◌++◌, ◌≡◌, length}
 use Rattle.block.specs.Block.{frame}
 use Rattle.block.specs.Record.{File, net_count}
 use Rattle.block.specs.Refusals.{read_checks}
 use Rattle.block.specs.Verdict.{Check, verdict}
-use Rattle.block.specs.declared.Verdict.{Verdict}
 use Rattle.operation.specs.Arguments.{hops_check, table_check, sheet_check, work_check}
 use Rattle.operation.specs.Operation.{answer_after, buffer_after, WorkAfter}
-use Rattle.operation.specs.declared.CurrentsAnswer.{CurrentsAnswer}
+use Rattle.operation.specs.declared.Currents.{Currents}
 use Rattle.sheet.specs.Sheet.{Sheet, sheet_words}
 use Rattle.evaluation.specs.Evaluation.{envelope_sheet, currents_of}
 
@@ -38,11 +40,11 @@ abbrev pub given_sheet : EnvelopeArguments → Sheet
 given_sheet given = frame_sheet given.hops given.file
 
 -- Envelope's answer: the drop and the quiet tick, or the refusal.
-abbrev pub envelope_answer : EnvelopeArguments → CurrentsAnswer
+abbrev pub envelope_answer : EnvelopeArguments → Result Currents Refusal
 envelope_answer given = answer_after (envelope_verdict given) (currents_of given.table (given_sheet given))
 
 -- What Envelope promises: its answer, and each buffer as it leaves it.
-pub record Enveloped (given : EnvelopeArguments) (answer : CurrentsAnswer) (sheet' work' : List ℕ) : Type 0 where
+pub record Enveloped (given : EnvelopeArguments) (answer : Result Currents Refusal) (sheet' work' : List ℕ) : Type 0 where
   pub answered : answer ≡ envelope_answer given
   pub written : sheet' ≡ buffer_after (envelope_verdict given) (sheet_words (given_sheet given)) given.sheet
   pub kept : WorkAfter (envelope_verdict given) given.work work'

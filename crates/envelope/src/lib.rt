@@ -6,19 +6,25 @@ ghost use Rattle.block.specs.Verdict.{verdict};
 ghost use Rattle.evaluation.specs.Evaluation.{Evaluable, Evaluated};
 ghost use Rattle.envelope.specs.Envelope.{argument_checks, frame_sheet, Enveloped};
 
-use block::{ReadAnswer, Verdict};
+use block::{Counts, Refusal};
 use evaluation::Setting;
-use operation::{Currents, CurrentsAnswer, arguments};
+use operation::{Currents, arguments};
 use sheet::Word;
 
 // Checks 11, 12 and 15, in order.
-fn check_arguments(nets: usize, hops: u64, table: usize, sheet: usize, work: usize) -> Verdict
+fn check_arguments(
+    nets: usize,
+    hops: u64,
+    table: usize,
+    sheet: usize,
+    work: usize,
+) -> Result<(), Refusal>
     ensures { result ≡ verdict (argument_checks nets hops table sheet work) }
 {
-    let v = arguments::check_hops(Verdict::Accepted, hops);
-    let v = arguments::check_table(v, table);
-    let v = arguments::check_sheet(v, sheet);
-    arguments::check_work(v, nets, work)
+    arguments::check_hops(hops)?;
+    arguments::check_table(table)?;
+    arguments::check_sheet(sheet)?;
+    arguments::check_work(nets, work)
 }
 
 // The envelope of an accepted file's frame.
@@ -44,23 +50,15 @@ pub fn envelope(
     table: &[u16],
     sheet: &mut [Word],
     work: &mut [u8],
-) -> CurrentsAnswer
+) -> Result<Currents, Refusal>
     ensures { Enveloped (record { file = file.now; hops = hops; table = table.now; sheet = sheet.old; work = work.old }) result sheet.new work.new }
 {
-    match block::read(file) {
-        ReadAnswer::Refused(r) => CurrentsAnswer::Refused(r),
-        ReadAnswer::Counts { nets, inputs } => {
-            match check_arguments(nets as usize, hops, table.len(), sheet.len(), work.len()) {
-                Verdict::Refused(r) => CurrentsAnswer::Refused(r),
-                Verdict::Accepted => {
-                    let setting = Setting {
-                        nets: nets as usize,
-                        inputs: inputs as usize,
-                        hops: hops as usize,
-                    };
-                    CurrentsAnswer::Found(evaluate_frame(file, setting, table, sheet, work))
-                }
-            }
-        }
-    }
+    let Counts { nets, inputs } = block::read(file)?;
+    check_arguments(nets, hops, table.len(), sheet.len(), work.len())?;
+    let setting = Setting {
+        nets,
+        inputs,
+        hops: hops as usize,
+    };
+    Ok(evaluate_frame(file, setting, table, sheet, work))
 }

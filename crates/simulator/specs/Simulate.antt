@@ -1,4 +1,7 @@
 -- Simulate (document 01, "Levels and simulation" and "Refusals in checking order"): its checks, its answer and its buffers.
+use Rattle.std.specs.Prelude.{Result}
+use Rattle.block.specs.Verdict.{Verdict}
+use Rattle.block.specs.declared.verdict.Refusal.{Refusal}
 use Rattle.std.specs.Prelude.{ℕ, ◌<◌, List, [], ◌∷◌, ◌++◌, map, ◌≡◌, length, get_or}
 use Rattle.excitation.specs.Excitation.{excitation_of, pattern_of}
 use Rattle.excitation.specs.UncertaintySet.{code, single, sets_in}
@@ -7,12 +10,10 @@ use Rattle.block.specs.Block.{input_count}
 use Rattle.block.specs.Record.{File, net_count}
 use Rattle.block.specs.Refusals.{read_checks}
 use Rattle.block.specs.Verdict.{Check, verdict}
-use Rattle.block.specs.declared.Verdict.{Verdict}
 use Rattle.operation.specs.Arguments.{table_check, sheet_check, pattern_check, work_check}
 use Rattle.operation.specs.Operation.{answer_after, buffer_after, WorkAfter}
 use Rattle.operation.specs.Pattern.{byte_checks}
 use Rattle.operation.specs.declared.Currents.{Currents}
-use Rattle.operation.specs.declared.CurrentsAnswer.{CurrentsAnswer}
 use Rattle.sheet.specs.Sheet.{Sheet, sheet_words}
 use Rattle.evaluation.specs.Evaluation.{simulated_sheet, currents_of, Evaluated}
 use Rattle.evaluation.specs.declared.Setting.{Setting}
@@ -48,11 +49,11 @@ abbrev pub given_sheet : SimulateArguments → Sheet
 given_sheet given = pattern_sheet given.file given.pattern
 
 -- Simulate's answer: the drop and the quiet tick, or the refusal.
-abbrev pub simulate_answer : SimulateArguments → CurrentsAnswer
+abbrev pub simulate_answer : SimulateArguments → Result Currents Refusal
 simulate_answer given = answer_after (simulate_verdict given) (currents_of given.table (given_sheet given))
 
 -- What Simulate promises: its answer, and each buffer as it leaves it.
-pub record Simulated (given : SimulateArguments) (answer : CurrentsAnswer) (sheet' work' : List ℕ) : Type 0 where
+pub record Simulated (given : SimulateArguments) (answer : Result Currents Refusal) (sheet' work' : List ℕ) : Type 0 where
   pub answered : answer ≡ simulate_answer given
   pub written : sheet' ≡ buffer_after (simulate_verdict given) (sheet_words (given_sheet given)) given.sheet
   pub kept : WorkAfter (simulate_verdict given) given.work work'

@@ -1,48 +1,33 @@
 // Simulate: the currents of one pattern.
 #![tactic(auto)]
 
-ghost use Rattle.std.specs.Prelude.{◌≡◌, ◌≤◌, ◌++◌, length};
-ghost use Rattle.block.specs.Accepted.{AcceptedFile};
+ghost use Rattle.std.specs.Prelude.{◌≡◌, ◌≤◌, length};
 ghost use Rattle.block.specs.Verdict.{verdict};
-ghost use Rattle.operation.specs.Pattern.{byte_checks};
 ghost use Rattle.evaluation.specs.Evaluation.{InputCodes, Evaluable, Evaluated};
 ghost use Rattle.simulator.specs.Simulate.{size_checks, pattern_sheet, PatternCodes, SinglesEvaluated, Simulated};
 
-use block::{ReadAnswer, Verdict};
+use block::{Counts, Refusal};
 use evaluation::Setting;
-use operation::{Currents, CurrentsAnswer, arguments, pattern};
+use operation::{Currents, arguments, pattern};
 use sheet::Word;
 
 // More hops than 256 ticks can have runs: nothing is filled.
 const UNLIMITED: usize = 128;
 
 // Checks 12 and 15, in order.
-fn check_sizes(nets: usize, table: usize, sheet: usize, pattern: usize, work: usize) -> Verdict
-    ensures { result ≡ verdict (size_checks nets table sheet pattern work) }
-{
-    let v = arguments::check_table(Verdict::Accepted, table);
-    let v = arguments::check_sheet(v, sheet);
-    let v = arguments::check_pattern_length(v, pattern);
-    arguments::check_work(v, nets, work)
-}
-
-// Checks 12, 15 and 16, in order.
-fn check_arguments(
-    file: &[u8],
+fn check_sizes(
     nets: usize,
-    inputs: usize,
     table: usize,
     sheet: usize,
-    pattern: &[u8],
+    pattern: usize,
     work: usize,
-) -> Verdict
-    requires { AcceptedFile file.now nets inputs }
-    ensures { result ≡ verdict (size_checks nets table sheet (length pattern.now) work ++ byte_checks file.now pattern.now inputs) }
+) -> Result<(), Refusal>
+    ensures { result ≡ verdict (size_checks nets table sheet pattern work) }
 {
-    match check_sizes(nets, table, sheet, pattern.len(), work) {
-        Verdict::Refused(r) => Verdict::Refused(r),
-        Verdict::Accepted => pattern::check_pattern(file, inputs, pattern),
-    }
+    arguments::check_table(table)?;
+    arguments::check_sheet(sheet)?;
+    arguments::check_pattern_length(pattern)?;
+    arguments::check_work(nets, work)
 }
 
 // The codes of a pattern's excitations as sets.
@@ -102,33 +87,16 @@ pub fn simulate(
     sheet: &mut [Word],
     pattern: &[u8],
     work: &mut [u8],
-) -> CurrentsAnswer
+) -> Result<Currents, Refusal>
     ensures { Simulated (record { file = file.now; table = table.now; sheet = sheet.old; pattern = pattern.now; work = work.old }) result sheet.new work.new }
 {
-    match block::read(file) {
-        ReadAnswer::Refused(r) => CurrentsAnswer::Refused(r),
-        ReadAnswer::Counts { nets, inputs } => {
-            match check_arguments(
-                file,
-                nets as usize,
-                inputs as usize,
-                table.len(),
-                sheet.len(),
-                pattern,
-                work.len(),
-            ) {
-                Verdict::Refused(r) => CurrentsAnswer::Refused(r),
-                Verdict::Accepted => {
-                    let setting = Setting {
-                        nets: nets as usize,
-                        inputs: inputs as usize,
-                        hops: UNLIMITED,
-                    };
-                    CurrentsAnswer::Found(evaluate_pattern(
-                        file, setting, table, sheet, pattern, work,
-                    ))
-                }
-            }
-        }
-    }
+    let Counts { nets, inputs } = block::read(file)?;
+    check_sizes(nets, table.len(), sheet.len(), pattern.len(), work.len())?;
+    pattern::check_pattern(file, inputs, pattern)?;
+    let setting = Setting {
+        nets,
+        inputs,
+        hops: UNLIMITED,
+    };
+    Ok(evaluate_pattern(file, setting, table, sheet, pattern, work))
 }

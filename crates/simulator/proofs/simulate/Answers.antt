@@ -1,27 +1,40 @@
 -- `simulator::simulate` meets its contract.
 -- Assumes nothing.
-use mathlib.Core.Path.{sym, ◌∙◌}
+use mathlib.Core.Path.{refl, sym, ◌∙◌}
 use native.Mathlib.Omega.{arith}
-use Rattle.block.proofs.Verdicts.{both_accepted}
+use Rattle.block.proofs.Verdicts.{handed_on, refused_first, accepted_first}
 use Rattle.operation.proofs.Operations.{file_accepted}
 use Rattle.simulator.proofs.Answers.{sizes_right, file_refused, argument_refused, call_accepted}
 use Rattle.simulator.proofs.simulate.Goals as goal
 
-pub check_arguments-requires : goal.check_arguments-requires
-check_arguments-requires c = file_accepted c.read.ensures c.in-Counts.is
+pub returns-in_err-nets : goal.returns-in_err-nets
+returns-in_err-nets c = file_refused _ c.read.ensures _ c.in_err-nets.was (handed_on c.from_residual.ensures.1 refl)
+
+pub returns-in_err-check_sizes : goal.returns-in_err-check_sizes
+returns-in_err-check_sizes c =
+    argument_refused _ c.read.ensures _ c.in_ok-nets.was _ (refused_first _ _ _ (sym c.check_sizes.ensures ∙ c.in_err-check_sizes.was))
+    (handed_on c.from_residual-in_err-check_sizes.ensures.1 refl)
+
+pub check_pattern-requires : goal.check_pattern-requires
+check_pattern-requires c =
+    let file = file_accepted c.read.ensures c.in_ok-nets.was in
+    let right = sizes_right _ _ _ _ _ (sym c.check_sizes.ensures ∙ c.in_ok-check_sizes.was) in
+    (omega (arith, file.whole, file.inputs_first), file.few_inputs, right.pattern_long)
+
+pub returns-in_err-check_pattern : goal.returns-in_err-check_pattern
+returns-in_err-check_pattern c =
+    argument_refused _ c.read.ensures _ c.in_ok-nets.was _
+    (accepted_first _ _ (sym c.check_sizes.ensures ∙ c.in_ok-check_sizes.was) ∙ sym c.check_pattern.ensures ∙ c.in_err-check_pattern.was)
+    (handed_on c.from_residual-in_err-check_pattern.ensures.1 refl)
 
 pub evaluate_pattern-requires : goal.evaluate_pattern-requires
 evaluate_pattern-requires c =
-    let file = file_accepted c.read.ensures c.in-Counts.is in
-    let both = both_accepted _ _ (sym c.check_arguments.ensures ∙ c.in-Accepted.is) in
-    let right = sizes_right _ _ _ _ _ both.0 in
+    let file = file_accepted c.read.ensures c.in_ok-nets.was in
+    let right = sizes_right _ _ _ _ _ (sym c.check_sizes.ensures ∙ c.in_ok-check_sizes.was) in
     (record { accepted = file; some_hops = omega arith; sheet_long = right.sheet_long; rows = record { whole = right.work_long; numbered = file.few_nets } }, right.pattern_long)
 
-pub returns-in-Refused : goal.returns-in-Refused
-returns-in-Refused c = file_refused _ c.read.ensures _ c.in-Refused.is
-
-pub returns-in-Refused-check_arguments : goal.returns-in-Refused-check_arguments
-returns-in-Refused-check_arguments c = argument_refused _ c.read.ensures _ _ c.in-Counts.is c.check_arguments.ensures _ c.in-Refused-check_arguments.is
-
-pub returns-in-Accepted : goal.returns-in-Accepted
-returns-in-Accepted c = call_accepted _ c.read.ensures _ _ c.in-Counts.is c.check_arguments.ensures _ _ _ c.in-Accepted.is c.evaluate_pattern.ensures
+pub returns : goal.returns
+returns c =
+    call_accepted _ c.read.ensures _ c.in_ok-nets.was _ _ _
+    (accepted_first _ _ (sym c.check_sizes.ensures ∙ c.in_ok-check_sizes.was) ∙ sym c.check_pattern.ensures ∙ c.in_ok-check_pattern.was)
+    c.evaluate_pattern.ensures
