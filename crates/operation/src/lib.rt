@@ -34,6 +34,6 @@ pub struct Found {
 // A maker's list of inputs in the order to be split: how many it names, and a byte for each, its net; 0 past them.
 #[derive(Clone, Copy)]
 pub struct SplitOrder {
-    pub inputs: u64,
+    pub inputs: usize,
     pub nets: [u8; 64],
 }

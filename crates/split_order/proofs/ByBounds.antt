@@ -1,5 +1,9 @@
 -- Laws of the list by bounds: the numbers give the list, the checks of the arguments, and what the second maker returns.
 -- Assumes nothing.
+use Rattle.block.specs.declared.verdict.Reason.TheVariants.{WrongHopLimit, WrongBuffer}
+use Rattle.std.specs.Prelude.{Result, Ok, Err}
+use Rattle.block.specs.Verdict.{Verdict, Accepted}
+use Rattle.block.specs.declared.Counts.{Counts}
 use Prim.Native.Nat.{ℕ, ◌*◌, ◌≤◌}
 use mathlib.Core.List.{List, [], ◌++◌}
 use mathlib.Core.Path.{◌≡◌, refl, ap, sym, ◌∙◌}
@@ -11,20 +15,14 @@ use Rattle.block.specs.Block.{frame, input_count}
 use Rattle.block.specs.Record.{File, net_count}
 use Rattle.block.specs.Refusals.{read_checks, read_of}
 use Rattle.block.specs.Verdict.{Check, verdict}
-use Rattle.block.specs.declared.ReadAnswer.{ReadAnswer}
-use Rattle.block.specs.declared.ReadAnswer.TheVariants as read_answer
-use Rattle.block.specs.declared.Refusal.{Refusal}
-use Rattle.block.specs.declared.Verdict.{Verdict}
-use Rattle.block.specs.declared.Verdict.TheVariants as verdict_is
+use Rattle.block.specs.declared.verdict.Refusal.{Refusal}
 use Rattle.block.proofs.Fields.{within_low}
 use Rattle.block.proofs.Frames.{frame_long}
-use Rattle.block.proofs.Numbered.{Numbered, numbering}
 use Rattle.block.proofs.Verdicts.{listed, listing}
-use Rattle.operation.specs.Operation.{WorkAfter}
-use Rattle.operation.specs.SplitOrder.{list_bytes, order_after}
-use Rattle.operation.specs.declared.OrderAnswer.TheVariants as answer
+use Rattle.operation.specs.Operation.{answer_after, WorkAfter}
+use Rattle.operation.specs.SplitOrder.{list_bytes, split_order}
 use Rattle.operation.specs.declared.SplitOrder.{SplitOrder}
-use Rattle.operation.proofs.Operations.{by_file, by_arguments, file_accepted, operation_numbered}
+use Rattle.operation.proofs.Operations.{by_file, by_arguments, file_accepted}
 use Rattle.evaluation.specs.declared.Setting.{Setting}
 use Rattle.cases.specs.SplitOrder.{in_order, tighter, bound_order}
 use Rattle.cases.proofs.SplitOrder.{order_long, order_same}
@@ -53,23 +51,14 @@ pub record ArgumentsRight (nets hops table work : ℕ) : Type 0 where
   pub some_hops : 1 ≤ hops
   pub work_long : 160 * nets ≤ work
 
-pub arguments_right : (nets hops table work : ℕ) → verdict (bound_order_checks nets hops table work) ≡ verdict_is.Accepted → ArgumentsRight nets hops table work
+pub arguments_right : (nets hops table work : ℕ) → verdict (bound_order_checks nets hops table work) ≡ Accepted → ArgumentsRight nets hops table work
 unfolding bound_order_checks
 arguments_right nets hops table work e = record {
-  some_hops = within_low 1 16 hops (listed _ e 11 0 _ (search listing));
-  work_long = leb-true (160 * nets) work (listed _ e 15 3 _ (search listing));
+  some_hops = within_low 1 16 hops (listed _ e WrongHopLimit 0 _ (search listing));
+  work_long = leb-true (160 * nets) work (listed _ e WrongBuffer 3 _ (search listing));
 }
 
--- No refusal of the second maker has the number 0.
-arguments_numbered : (nets hops table work : ℕ) → Numbered (bound_order_checks nets hops table work)
-unfolding bound_order_checks
-arguments_numbered nets hops table work = search numbering depth 10
-
-pub bound_order_numbered : (given : BoundOrderArguments) (r : Refusal) → bound_order_verdict given ≡ verdict_is.Refused r → 1 ≤ r.number
-unfolding bound_order_verdict
-bound_order_numbered given = operation_numbered given.file (arguments_numbered _ _ _ _)
-
-module _ (given : BoundOrderArguments) {read : ReadAnswer} (is : read ≡ read_of given.file) where
+module _ (given : BoundOrderArguments) {read : Result Counts Refusal} (is : read ≡ read_of given.file) where
   abbrev checks : ℕ → ℕ → List Check
   checks nets inputs = bound_order_checks nets given.hops (length given.table) (length given.work)
 
@@ -77,24 +66,23 @@ module _ (given : BoundOrderArguments) {read : ReadAnswer} (is : read ≡ read_o
   order = frame_order given.file given.hops given.table
 
   -- What the second maker promises, by the verdict.
-  abbrev Promised : SplitOrder → List ℕ → Verdict → Type 0
-  Promised made work' v = (made ≡ order_after v order) × WorkAfter v given.work work'
+  abbrev Promised : Result SplitOrder Refusal → List ℕ → Verdict → Type 0
+  Promised made work' v = (made ≡ answer_after v (split_order order)) × WorkAfter v given.work work'
 
-  ordered : (made : SplitOrder) (work' : List ℕ)
+  ordered : (made : Result SplitOrder Refusal) (work' : List ℕ)
       → Promised made work' (verdict (read_checks given.file ++ checks (net_count given.file) (input_count given.file))) → BoundOrdered given made work'
   unfolding bound_order_verdict
   ordered made work' p = record { answered = p.0; kept = p.1 }
 
-  pub file_refused : {r : Refusal} {made : SplitOrder} → read ≡ read_answer.Refused r → made ≡ order_after (verdict_is.Refused r) [] → BoundOrdered given made given.work
-  file_refused told refused = ordered _ _ (by_file given.file checks (Promised _ _) is told (refused, refl))
+  pub file_refused : (r : Refusal) {made : Result SplitOrder Refusal} → read ≡ Err r → made ≡ Err r → BoundOrdered given made given.work
+  file_refused r told refused = ordered _ _ (by_file given.file checks (Promised _ _) is told (refused, refl))
 
-  module _ {nets inputs : ℕ} (told : read ≡ read_answer.Counts nets inputs) {v : Verdict} (checked : v ≡ verdict (checks nets inputs)) where
-    pub argument_refused : {r : Refusal} {made : SplitOrder} → v ≡ verdict_is.Refused r → made ≡ order_after (verdict_is.Refused r) []
-        → BoundOrdered given made given.work
-    argument_refused said refused = ordered _ _ (by_arguments given.file checks (Promised _ _) is told checked said (refused, refl))
+  module _ (found : Counts) (told : read ≡ Ok found) {v : Verdict} (checked : v ≡ verdict (checks found.nets found.inputs)) where
+    pub argument_refused : (r : Refusal) {made : Result SplitOrder Refusal} → v ≡ Err r → made ≡ Err r → BoundOrdered given made given.work
+    argument_refused r said refused = ordered _ _ (by_arguments given.file checks (Promised _ _) is told checked said (refused, refl))
 
-    pub list_made : {bytes work' : List ℕ} → v ≡ verdict_is.Accepted → bytes ≡ list_bytes order
-        → BoundOrdered given (record { answer = answer.Inputs inputs; nets = bytes }) work'
+    pub list_made : {bytes work' : List ℕ} → v ≡ Accepted → bytes ≡ list_bytes order
+        → BoundOrdered given (Ok (record { inputs = found.inputs; nets = bytes })) work'
     list_made said made =
-        let n : inputs ≡ length order = sym (frame_order_long given.file given.hops given.table ∙ (file_accepted is told).input_count_lem) in
+        let n : found.inputs ≡ length order = sym (frame_order_long given.file given.hops given.table ∙ (file_accepted is told).input_count_lem) in
         ordered _ _ (by_arguments given.file checks (Promised _ _) is told checked said (rw (n, made) refl, tt))

@@ -1,5 +1,9 @@
 -- Laws of the list by cone: the numbers sort as the cones do, and what the first maker returns.
 -- Assumes nothing.
+use Rattle.operation.specs.Operation.{answer_after}
+use Rattle.std.specs.Prelude.{Result, Ok, Err}
+use Rattle.block.specs.Verdict.{Verdict, Accepted}
+use Rattle.block.specs.declared.Counts.{Counts}
 use Prim.Native.Nat.{ℕ, ◌-◌, ◌≤◌, ◌<◌}
 use mathlib.Core.Bool.{false}
 use mathlib.Core.List.{List, [], ◌∷◌}
@@ -17,14 +21,9 @@ use Rattle.block.specs.Block.{fed_from, cone_size, input_count}
 use Rattle.block.specs.Record.{File, net_count}
 use Rattle.block.specs.Refusals.{read_checks, answer_to, read_of}
 use Rattle.block.specs.Verdict.{verdict}
-use Rattle.block.specs.declared.ReadAnswer.{ReadAnswer}
-use Rattle.block.specs.declared.ReadAnswer.TheVariants as read_answer
-use Rattle.block.specs.declared.Refusal.{Refusal}
-use Rattle.block.specs.declared.Verdict.{Verdict}
-use Rattle.block.specs.declared.Verdict.TheVariants as verdict_is
+use Rattle.block.specs.declared.verdict.Refusal.{Refusal}
 use Rattle.block.proofs.Accepted.{accepted, counts_of, refused_verdict}
-use Rattle.operation.specs.SplitOrder.{list_bytes, order_after}
-use Rattle.operation.specs.declared.OrderAnswer.TheVariants as answer
+use Rattle.operation.specs.SplitOrder.{list_bytes, split_order}
 use Rattle.operation.specs.declared.SplitOrder.{SplitOrder}
 use Rattle.operation.proofs.Operations.{file_accepted}
 use Rattle.cases.specs.SplitOrder.{in_order, lex_below, wider, cone_order}
@@ -78,31 +77,31 @@ cone_order_long file = order_long (wider (cone_size file)) (input_count file)
 
 -- What the first maker returns: the file is refused, or its list is made.
 
-module _ (file : File) {read : ReadAnswer} (is : read ≡ read_of file) where
-  pub cones_refused : {r : Refusal} {made : SplitOrder} → read ≡ read_answer.Refused r → made ≡ order_after (verdict_is.Refused r) [] → made ≡ cone_order_made file
+module _ (file : File) {read : Result Counts Refusal} (is : read ≡ read_of file) where
+  pub cones_refused : {r : Refusal} → read ≡ Err r → Err r ≡ cone_order_made file
   unfolding read_of cone_order_made
-  cones_refused {r} told refused =
+  cones_refused {r} told =
       let v = refused_verdict file (verdict (read_checks file)) r (sym is ∙ told) in
-      refused ∙ rw v refl
+      rw v refl
 
-  pub cones_listed : {nets inputs : ℕ} {bytes : List ℕ} → read ≡ read_answer.Counts nets inputs → bytes ≡ list_bytes (cone_order file)
-      → ◌≡◌ {A = SplitOrder} (record { answer = answer.Inputs inputs; nets = bytes }) (cone_order_made file)
+  pub cones_listed : {found : Counts} {bytes : List ℕ} → read ≡ Ok found → bytes ≡ list_bytes (cone_order file)
+      → Ok (record { inputs = found.inputs; nets = bytes }) ≡ cone_order_made file
   unfolding read_of cone_order_made
-  cones_listed {nets} {inputs} told listed =
-      let v = (counts_of file (verdict (read_checks file)) nets inputs (sym is ∙ told)).0 in
-      let n : inputs ≡ length (cone_order file) = sym (cone_order_long file ∙ (file_accepted is told).input_count_lem) in
+  cones_listed {found} told listed =
+      let v = (counts_of file (verdict (read_checks file)) found.nets found.inputs (sym is ∙ told)).0 in
+      let n : found.inputs ≡ length (cone_order file) = sym (cone_order_long file ∙ (file_accepted is told).input_count_lem) in
       rw (v, n, listed) refl
 
--- What the answer says: a refusal is Read's, and a count comes with the list.
+-- What the answer says: a refusal is Read's, and a list is that of an accepted file.
 
-told_refused : (file : File) (v : Verdict) (r : Refusal) → (order_after v (cone_order file)).answer ≡ answer.Refused r → answer_to file v ≡ read_answer.Refused r
-told_refused file verdict_is.Accepted r e = absurd (let z : ◌≡◌ {A = ℕ} 0 1 = cc in omega arith)
-told_refused file (verdict_is.Refused s) r e = let z : s ≡ r = cc in ap read_answer.Refused z
+told_refused : (file : File) (v : Verdict) (r : Refusal) → answer_after v (split_order (cone_order file)) ≡ Err r → answer_to file v ≡ Err r
+told_refused file (Ok _) r e = absurd (let z : ◌≡◌ {A = ℕ} 0 1 = cc in omega arith)
+told_refused file (Err s) r e = let z : s ≡ r = cc in ap Err z
 
-told_inputs : (file : File) (v : Verdict) (n : ℕ) → (order_after v (cone_order file)).answer ≡ answer.Inputs n
-    → (v ≡ verdict_is.Accepted) × (n ≡ length (cone_order file))
-told_inputs file verdict_is.Accepted n e = (refl, cc)
-told_inputs file (verdict_is.Refused s) n e = absurd (let z : ◌≡◌ {A = ℕ} 0 1 = cc in omega arith)
+told_list : (file : File) (v : Verdict) (made : SplitOrder) → answer_after v (split_order (cone_order file)) ≡ Ok made
+    → (v ≡ Accepted) × (made ≡ split_order (cone_order file))
+told_list file (Ok _) made e = let z : split_order (cone_order file) ≡ made = cc in (refl, sym z)
+told_list file (Err s) made e = absurd (let z : ◌≡◌ {A = ℕ} 0 1 = cc in omega arith)
 
 -- The first so many bytes are the list, which names at least one input and at most 64.
 pub record ListMade (file : File) (n : ℕ) (bytes : List ℕ) : Type 0 where
@@ -111,21 +110,22 @@ pub record ListMade (file : File) (n : ℕ) (bytes : List ℕ) : Type 0 where
   pub few : n ≤ 64
   pub room : n ≤ length bytes
 
-module _ (file : File) {made : SplitOrder} (is : made ≡ cone_order_made file) where
-  pub refused_by_read : {r : Refusal} → made.answer ≡ answer.Refused r → read_of file ≡ read_answer.Refused r
+module _ (file : File) {made : Result SplitOrder Refusal} (is : made ≡ cone_order_made file) where
+  pub refused_by_read : {r : Refusal} → made ≡ Err r → read_of file ≡ Err r
   unfolding cone_order_made read_of
-  refused_by_read {r} told = told_refused file (verdict (read_checks file)) r (sym (ap (λ (m : SplitOrder). m.answer) is) ∙ told)
+  refused_by_read {r} told = told_refused file (verdict (read_checks file)) r (sym is ∙ told)
 
-  pub list_made : {n : ℕ} → made.answer ≡ answer.Inputs n → ListMade file n made.nets
+  pub list_made : {list : SplitOrder} → made ≡ Ok list → ListMade file list.inputs list.nets
   unfolding cone_order_made read_of list_bytes
-  list_made {n} told =
-      let said = told_inputs file (verdict (read_checks file)) n (sym (ap (λ (m : SplitOrder). m.answer) is) ∙ told) in
-      let bytes : made.nets ≡ list_bytes (cone_order file) = ap (λ (m : SplitOrder). m.nets) is ∙ ap (λ v. (order_after v (cone_order file)).nets) said.0 in
+  list_made {list} told =
+      let said = told_list file (verdict (read_checks file)) list (sym is ∙ told) in
+      let n : list.inputs ≡ length (cone_order file) = ap (λ (m : SplitOrder). m.inputs) said.1 in
+      let bytes : list.nets ≡ list_bytes (cone_order file) = ap (λ (m : SplitOrder). m.nets) said.1 in
       let whole = accepted file (net_count file) (input_count file) (ap (answer_to file) said.0) in
       let long = cone_order_long file in
       record {
-        list = ap (take n) bytes ∙ take_at (cone_order file) _ n (sym said.1);
-        some = omega (arith, said.1, long, whole.one_input);
-        few = omega (arith, said.1, long, whole.few_inputs);
-        room = omega (arith, said.1, ap length bytes, length-append (cone_order file) (replicate (64 - length (cone_order file)) 0));
+        list = ap (take list.inputs) bytes ∙ take_at (cone_order file) _ list.inputs (sym n);
+        some = omega (arith, n, long, whole.one_input);
+        few = omega (arith, n, long, whole.few_inputs);
+        room = omega (arith, n, ap length bytes, length-append (cone_order file) (replicate (64 - length (cone_order file)) 0));
       }

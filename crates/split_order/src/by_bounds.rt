@@ -13,12 +13,12 @@ ghost use Rattle.split_order.specs.SplitOrder.{bound_order_checks, frame_order, 
 ghost use Rattle.split_order.specs.Trying.{Triable, decided_key, UntriedKey, TriedBelow, TriedKey, tighter_in};
 
 use super::{Four, key, sort};
-use block::{Net, ReadAnswer, Verdict};
+use block::{Counts, Net, Refusal};
 use bounds::evaluate;
 use cases::sets;
 use evaluation::Setting;
 use excitation::Set;
-use operation::{OrderAnswer, SplitOrder, arguments};
+use operation::{SplitOrder, arguments};
 use sheet::Word;
 
 // Above every upper number: the first number of a decided input, which follows all others.
@@ -172,35 +172,32 @@ fn list_by_bounds(file: &[u8], setting: Setting, table: &[u16], work: &mut [u8])
 }
 
 // Checks 11, 12 and 15, place 3, by the lengths of what is lent.
-fn check_arguments(nets: usize, hops: u64, table: usize, work: usize) -> Verdict
+fn check_arguments(nets: usize, hops: u64, table: usize, work: usize) -> Result<(), Refusal>
     ensures { result ≡ verdict (bound_order_checks nets hops table work) }
 {
-    let v = arguments::check_hops(Verdict::Accepted, hops);
-    let v = arguments::check_table(v, table);
-    arguments::check_work(v, nets, work)
+    arguments::check_hops(hops)?;
+    arguments::check_table(table)?;
+    arguments::check_work(nets, work)
 }
 
 // The second maker: the checks in order, then the list by bounds.
-pub fn bound_order(file: &[u8], hops: u64, table: &[u16], work: &mut [u8]) -> SplitOrder
+pub fn bound_order(
+    file: &[u8],
+    hops: u64,
+    table: &[u16],
+    work: &mut [u8],
+) -> Result<SplitOrder, Refusal>
     ensures { BoundOrdered (record { file = file.now; hops = hops; table = table.now; work = work.old }) result work.new }
 {
-    match block::read(file) {
-        ReadAnswer::Refused(r) => super::refused(r),
-        ReadAnswer::Counts { nets, inputs } => {
-            match check_arguments(nets as usize, hops, table.len(), work.len()) {
-                Verdict::Refused(r) => super::refused(r),
-                Verdict::Accepted => {
-                    let setting = Setting {
-                        nets: nets as usize,
-                        inputs: inputs as usize,
-                        hops: hops as usize,
-                    };
-                    SplitOrder {
-                        answer: OrderAnswer::Inputs(inputs),
-                        nets: list_by_bounds(file, setting, table, work),
-                    }
-                }
-            }
-        }
-    }
+    let Counts { nets, inputs } = block::read(file)?;
+    check_arguments(nets, hops, table.len(), work.len())?;
+    let setting = Setting {
+        nets,
+        inputs,
+        hops: hops as usize,
+    };
+    Ok(SplitOrder {
+        inputs,
+        nets: list_by_bounds(file, setting, table, work),
+    })
 }

@@ -7,8 +7,8 @@ ghost use Rattle.split_order.specs.Sorting.{SortsBy};
 ghost use Rattle.split_order.specs.SplitOrder.{cone_order_made};
 
 use super::{key, reach, sort};
-use block::{Net, ReadAnswer};
-use operation::{OrderAnswer, SplitOrder};
+use block::{Counts, Net, Refusal};
+use operation::SplitOrder;
 
 // Writes the numbers of the inputs: 1,024 less the gates in the cone, and 0 three times.
 fn write_keys(cones: &[u16], inputs: usize, keys: &mut [u64])
@@ -36,14 +36,12 @@ fn list_by_cone(file: &[u8], nets: usize, inputs: usize) -> [u8; 64]
 }
 
 // The first maker: the checks of the file, then the list by cone.
-pub fn cone_order(file: &[u8]) -> SplitOrder
+pub fn cone_order(file: &[u8]) -> Result<SplitOrder, Refusal>
     ensures { result ≡ cone_order_made file.now }
 {
-    match block::read(file) {
-        ReadAnswer::Refused(r) => super::refused(r),
-        ReadAnswer::Counts { nets, inputs } => SplitOrder {
-            answer: OrderAnswer::Inputs(inputs),
-            nets: list_by_cone(file, nets as usize, inputs as usize),
-        },
-    }
+    let Counts { nets, inputs } = block::read(file)?;
+    Ok(SplitOrder {
+        inputs,
+        nets: list_by_cone(file, nets, inputs),
+    })
 }
