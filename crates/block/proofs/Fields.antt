@@ -3,7 +3,7 @@
 use Rattle.block.specs.declared.verdict.Reason.TheVariants.{UnknownKind, MisplacedInput, WrongPinCount, StrayByte, PinNotBelow, OutOfRange}
 use Rattle.block.specs.Verdict.{Verdict, Accepted}
 use Prim.Native.Nat.{ℕ, ◌+◌, ◌≤◌}
-use mathlib.Core.Path.{◌≡◌, refl, sym, ◌∙◌}
+use mathlib.Core.Path.{◌≡◌, ap, refl, sym, ◌∙◌}
 use mathlib.Core.List.{[]}
 use mathlib.Core.Bool.{Bool, true, false, ◌&&◌}
 use native.Mathlib.Omega.{arith}
@@ -67,6 +67,10 @@ pins_high file net t =
     let bounds = rule_bounds (kind_of (kind file net)) in
     let high = within_high _ _ _ t in
     omega arith
+
+-- The same test of the same number.
+pub within_same : (low high : ℕ) {x y : ℕ} {s : Bool} → s ≡ within low high x → x ≡ y → s ≡ within low high y
+within_same low high e same = e ∙ ap (within low high) same
 
 -- Kind 1 is an input, and any other kind a gate.
 pub is_input_lem : (file : File) (net : ℕ) → kind file net ≡ 1 → is_input file net ≡ true

@@ -50,27 +50,25 @@ unfolding verdict
 passed reason place true rest e = (refl, e)
 passed reason place false rest e = apart _ e
 
--- One check after the other, as code goes: the first one's refusal stands, and where it passes the verdict is left to the checks after it.
-module _ (c : Check) (rest : List Check) {v : Verdict} (judged : v ≡ verdict (c ∷ [])) where
-  pub first_refused : {r : Refusal} → v ≡ Err r → Err r ≡ verdict (c ∷ rest)
-  first_refused {r} e = sym (refused_first (c ∷ []) rest r (sym judged ∙ e))
-
-  pub first_passed : v ≡ Accepted → verdict rest ≡ verdict (c ∷ rest)
-  first_passed e = sym (accepted_first (c ∷ []) rest (sym judged ∙ e))
-
--- The same where s is the code's own test of a check, and t the definition's.
-module _ (reason : Reason) (place : ℕ) {s t : Bool} {v : Verdict} (judged : v ≡ verdict (check reason place s ∷ [])) (same : s ≡ t) where
-  told : v ≡ verdict (check reason place t ∷ [])
-  told = judged ∙ ap (λ b. verdict (check reason place b ∷ [])) same
+-- One check after the other, as code goes, where s is the code's own test of a check and t the definition's.
+module _ (reason : Reason) (place : ℕ) {s t : Bool} {v : Verdict} (made : v ≡ verdict (check reason place s ∷ [])) (same : s ≡ t) where
+  -- The last check.
+  pub judged : v ≡ verdict (check reason place t ∷ [])
+  judged = made ∙ ap (λ b. verdict (check reason place b ∷ [])) same
 
   pub holds : v ≡ Accepted → t ≡ true
-  holds e = (passed reason place t [] (sym told ∙ e)).0
+  holds e = (passed reason place t [] (sym judged ∙ e)).0
 
-  pub check_refused : (rest : List Check) (r : Refusal) → v ≡ Err r → Err r ≡ verdict (check reason place t ∷ rest)
-  check_refused rest r = first_refused (check reason place t) rest told
+  -- Its refusal stands.
+  pub refused_here : (rest : List Check) {r : Refusal} → v ≡ Err r → Err r ≡ verdict (check reason place t ∷ rest)
+  refused_here rest e = sym (refused_first (check reason place t ∷ []) rest _ (sym judged ∙ e))
 
-  pub check_passed : (rest : List Check) → v ≡ Accepted → verdict rest ≡ verdict (check reason place t ∷ rest)
-  check_passed rest = first_passed (check reason place t) rest told
+  -- Where it passes, the verdict is left to the checks after it.
+  pub judged_later : (rest : List Check) {w : Verdict} → v ≡ Accepted → w ≡ verdict rest → w ≡ verdict (check reason place t ∷ rest)
+  judged_later rest e later = later ∙ sym (accepted_first (check reason place t ∷ []) rest (sym judged ∙ e))
+
+-- Finds the verdict of code that makes one check after the other, each with `?`.
+pub ruleset judging = (handed_on, judged, refused_here, judged_later, refl)
 
 pub both_accepted : (s t : List Check) → verdict (s ++ t) ≡ Accepted → (verdict s ≡ Accepted) × (verdict t ≡ Accepted)
 unfolding verdict

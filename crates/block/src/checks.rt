@@ -115,6 +115,7 @@ fn record_in_range(file: &[u8], net: Net) -> bool
 }
 
 // Checks 5, 7 and 9 of an input, given how many inputs stand below it.
+#[tactic(auto, using(crate::proofs::Verdicts::judging, crate::proofs::Fields::place_by_count, crate::proofs::Fields::within_same), unfolding(crate::specs::Refusals::input_checks, crate::specs::Refusals::input_in_range))]
 fn check_input(file: &[u8], net: Net, inputs: usize) -> Result<(), Refusal>
     requires { HasRecord file.now net.0 × (inputs ≡ inputs_below file.now net.0) }
     ensures { result ≡ verdict (input_checks file.now net.0) }
@@ -134,6 +135,7 @@ fn check_input(file: &[u8], net: Net, inputs: usize) -> Result<(), Refusal>
 }
 
 // Checks 6 to 9 of a gate. Only a right pin count lets its pins be read.
+#[tactic(auto, using(crate::proofs::Verdicts::judging, crate::proofs::Verdicts::holds, crate::proofs::Fields::pins_high), unfolding(crate::specs::Refusals::gate_checks))]
 fn check_gate(file: &[u8], net: Net) -> Result<(), Refusal>
     requires { HasRecord file.now net.0 }
     ensures { result ≡ verdict (gate_checks file.now net.0) }
@@ -146,6 +148,7 @@ fn check_gate(file: &[u8], net: Net) -> Result<(), Refusal>
 }
 
 // Checks 4 to 9, given how many inputs stand below the net.
+#[tactic(auto, using(crate::proofs::Verdicts::judging, crate::proofs::Fields::within_same), unfolding(crate::specs::Refusals::field_checks, crate::specs::Refusals::kind_known))]
 pub fn check_fields(file: &[u8], net: Net, inputs: usize) -> Result<(), Refusal>
     requires { HasRecord file.now net.0 × (inputs ≡ inputs_below file.now net.0) }
     ensures { result ≡ verdict (field_checks file.now net.0) }

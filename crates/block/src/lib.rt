@@ -60,6 +60,7 @@ pub struct Counts {
 }
 
 // Checks 1 to 3, on the whole file.
+#[tactic(auto, using(crate::proofs::Verdicts::judging), unfolding(crate::specs::Refusals::file_checks))]
 fn check_file(file: &[u8]) -> Result<(), Refusal>
     ensures { result ≡ verdict (file_checks file.now) }
 {

@@ -12,6 +12,7 @@ use operation::{Currents, arguments};
 use sheet::Word;
 
 // Checks 11, 12 and 15, in order.
+#[tactic(auto, using(block::proofs::Verdicts::judging), unfolding(crate::specs::Envelope::argument_checks))]
 fn check_arguments(
     nets: usize,
     hops: u64,

@@ -3,10 +3,11 @@ ghost use Rattle.std.specs.Prelude.{◌≡◌};
 ghost use Rattle.block.specs.Verdict.{verdict};
 ghost use Rattle.search.specs.Search.{argument_checks};
 
-use block::Verdict;
+use block::Refusal;
 use operation::{arguments, split_order};
 
 // The checks, by the lengths of what is lent and by the list of inputs.
+#[tactic(auto, using(block::proofs::Verdicts::judging), unfolding(crate::specs::Search::argument_checks))]
 pub fn check_arguments(
     nets: usize,
     inputs: usize,
@@ -19,16 +20,16 @@ pub fn check_arguments(
     pattern: usize,
     work: usize,
     store: usize,
-) -> Verdict
+) -> Result<(), Refusal>
     ensures { result ≡ verdict (argument_checks nets inputs hops table ratio budget order.now sheet pattern work store) }
 {
-    let v = arguments::check_hops(Verdict::Accepted, hops);
-    let v = arguments::check_table(v, table);
-    let v = arguments::check_ratio(v, ratio);
-    let v = arguments::check_budget(v, budget);
-    let v = split_order::check_order(v, inputs, order);
-    let v = arguments::check_sheet(v, sheet);
-    let v = arguments::check_pattern_length(v, pattern);
-    let v = arguments::check_work(v, nets, work);
-    arguments::check_store(v, budget, store)
+    arguments::check_hops(hops)?;
+    arguments::check_table(table)?;
+    arguments::check_ratio(ratio)?;
+    arguments::check_budget(budget)?;
+    split_order::check_order(inputs, order)?;
+    arguments::check_sheet(sheet)?;
+    arguments::check_pattern_length(pattern)?;
+    arguments::check_work(nets, work)?;
+    arguments::check_store(budget, store)
 }

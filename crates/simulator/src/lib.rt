@@ -15,6 +15,7 @@ use sheet::Word;
 const UNLIMITED: usize = 128;
 
 // Checks 12 and 15, in order.
+#[tactic(auto, using(block::proofs::Verdicts::judging), unfolding(crate::specs::Simulate::size_checks))]
 fn check_sizes(
     nets: usize,
     table: usize,

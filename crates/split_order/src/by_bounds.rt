@@ -172,6 +172,7 @@ fn list_by_bounds(file: &[u8], setting: Setting, table: &[u16], work: &mut [u8])
 }
 
 // Checks 11, 12 and 15, place 3, by the lengths of what is lent.
+#[tactic(auto, using(block::proofs::Verdicts::judging), unfolding(crate::specs::SplitOrder::bound_order_checks))]
 fn check_arguments(nets: usize, hops: u64, table: usize, work: usize) -> Result<(), Refusal>
     ensures { result ≡ verdict (bound_order_checks nets hops table work) }
 {
