@@ -42,6 +42,11 @@ accepted_first [] t e = refl
 accepted_first (check reason place true ∷ s) t e = accepted_first s t e
 accepted_first (check reason place false ∷ s) t e = apart _ e
 
+-- A check that passes leaves an accepted list accepted.
+pub stays_accepted : (reason : Reason) (place : ℕ) {b : Bool} (rest : List Check) → b ≡ true → verdict rest ≡ Accepted → verdict (check reason place b ∷ rest) ≡ Accepted
+unfolding verdict
+stays_accepted reason place rest t e = rw t e
+
 -- What an accepted list says.
 
 pub passed : (reason : Reason) (place : ℕ) (b : Bool) (rest : List Check) → verdict (check reason place b ∷ rest) ≡ Accepted

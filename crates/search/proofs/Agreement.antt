@@ -1,5 +1,9 @@
 -- The agreement of the two houses, from the promises of Search and Simulate, the laws of the search and the soundness law.
 -- Assumes nothing.
+use Rattle.block.specs.declared.verdict.Reason.TheVariants.{WrongTable, WrongBuffer}
+use Rattle.std.specs.Prelude.{Result, Ok, Err}
+use Rattle.block.specs.Verdict.{Verdict, Accepted}
+use Rattle.block.specs.declared.verdict.Refusal.{Refusal}
 use Prim.Native.Nat.{ℕ, ◌*◌, ◌≤◌}
 use mathlib.Core.List.{List}
 use mathlib.Core.Path.{◌≡◌, refl, ap, sym, subst, ◌∙◌}
@@ -12,18 +16,13 @@ use Rattle.block.specs.Block.{frame, input_count, Choice}
 use Rattle.block.specs.Record.{File, net_count}
 use Rattle.block.specs.Refusals.{read_checks, read_of}
 use Rattle.block.specs.Verdict.{verdict}
-use Rattle.block.specs.declared.Verdict.{Verdict}
-use Rattle.block.specs.declared.Verdict.TheVariants as verdict_is
 use Rattle.block.proofs.Accepted.{accepted}
 use Rattle.block.proofs.Frames.{frame_long}
-use Rattle.block.proofs.Verdicts.{all_passed, more, stays_accepted, both_accepted, accepted_first}
+use Rattle.block.proofs.Verdicts.{all_passed, stays_accepted, both_accepted, accepted_first}
 use Rattle.operation.specs.Operation.{answer_after, buffer_after}
 use Rattle.operation.specs.Pattern.{byte_checks}
 use Rattle.operation.specs.declared.Currents.{Currents}
-use Rattle.operation.specs.declared.CurrentsAnswer.{CurrentsAnswer}
-use Rattle.operation.specs.declared.CurrentsAnswer.TheVariants as currents
 use Rattle.operation.specs.declared.Found.{Found}
-use Rattle.operation.specs.declared.SearchAnswer.TheVariants as answer
 use Rattle.operation.proofs.Patterns.{pattern_chosen}
 use Rattle.sheet.specs.Sheet.{sheet_words, drop_of, quiet_tick}
 use Rattle.sheet.proofs.QuietTick.{quiet_no_later}
@@ -40,19 +39,15 @@ use Rattle.cases.proofs.Right.{search_right, sheet_above}
 use Rattle.simulator.specs.Simulate.{SimulateArguments, size_checks, simulate_verdict, pattern_sheet, given_sheet, Simulated}
 use Rattle.bounds.specs.Bounds.{simulated_drop, envelope_drop}
 use Rattle.search.specs.Agreement.{sharing, Agrees, Agreement}
-use Rattle.search.specs.Search.{SearchArguments, search_of, search_verdict, final_sheet, found_by, search_answer_after, Searched}
+use Rattle.search.specs.Search.{SearchArguments, search_of, search_verdict, final_sheet, found_by, Searched}
 use Rattle.search.proofs.Accepted.{ArgumentsRight, arguments_right}
 use Rattle.search.proofs.Frame.{frame_probe, pattern_room, pattern_back, pattern_passes}
 
 -- An operation that answers with values was accepted.
 
-currents_accepted : (v : Verdict) (are told : Currents) → currents.Found told ≡ answer_after v are → (v ≡ verdict_is.Accepted) × (told ≡ are)
-currents_accepted verdict_is.Accepted are told e = (refl, cc)
-currents_accepted (verdict_is.Refused r) are told e = absurd (let z : ◌≡◌ {A = ℕ} 0 1 = cc in omega arith)
-
-found_accepted : (v : Verdict) (found told : Found) → answer.Found told ≡ search_answer_after v found → (v ≡ verdict_is.Accepted) × (told ≡ found)
-found_accepted verdict_is.Accepted found told e = (refl, cc)
-found_accepted (verdict_is.Refused r) found told e = absurd (let z : ◌≡◌ {A = ℕ} 0 1 = cc in omega arith)
+answer_accepted : {T : Type 0} (v : Verdict) (are told : T) → Ok told ≡ answer_after v are → (v ≡ Accepted) × (told ≡ are)
+answer_accepted (Ok _) are told e = (refl, cc)
+answer_accepted (Err r) are told e = absurd (let z : ◌≡◌ {A = ℕ} 0 1 = cc in omega arith)
 
 -- What an accepted simulation is.
 record AcceptedSimulation (given : SimulateArguments) (told : Currents) (simulated : List ℕ) : Type 0 where
@@ -60,11 +55,11 @@ record AcceptedSimulation (given : SimulateArguments) (told : Currents) (simulat
   currents_are : told ≡ currents_of given.table (given_sheet given)
   sheet_is : simulated ≡ sheet_words (given_sheet given)
 
-simulation_accepted : {given : SimulateArguments} {told : Currents} {simulated work' : List ℕ} → Simulated given (currents.Found told) simulated work'
+simulation_accepted : {given : SimulateArguments} {told : Currents} {simulated work' : List ℕ} → Simulated given (Ok told) simulated work'
     → AcceptedSimulation given told simulated
 unfolding simulate_verdict
 simulation_accepted {given} {told} s =
-    let v = currents_accepted (simulate_verdict given) (currents_of given.table (given_sheet given)) told s.answered in
+    let v = answer_accepted (simulate_verdict given) (currents_of given.table (given_sheet given)) told s.answered in
     let rest = (both_accepted (read_checks given.file) _ v.0).1 in
     let bytes_accepted = (both_accepted
     (size_checks (net_count given.file) (length given.table) (length given.sheet) (length given.pattern) (length given.work)) _ rest).1 in
@@ -77,22 +72,22 @@ simulation_accepted {given} {told} s =
 -- What an accepted search is.
 record AcceptedSearch (given : SearchArguments) (found : Found) (sheet pattern : List ℕ) : Type 0 where
   file_accepted : AcceptedFile given.file (net_count given.file) (input_count given.file)
-  read_passed : verdict (read_checks given.file) ≡ verdict_is.Accepted
+  read_passed : verdict (read_checks given.file) ≡ Accepted
   arguments : ArgumentsRight (net_count given.file) (input_count given.file) given.hops (length given.table) given.ratio given.budget given.order (length given.sheet)
       (length given.pattern) (length given.work) (length given.store)
   found_is : found ≡ found_by given
   sheet_is : sheet ≡ sheet_words (final_sheet given)
   pattern_is : pattern ≡ pattern_with (search_of given).state.best.pattern given.pattern
 
-read_accepted : (file : File) → verdict (read_checks file) ≡ verdict_is.Accepted → AcceptedFile file (net_count file) (input_count file)
+read_accepted : (file : File) → verdict (read_checks file) ≡ Accepted → AcceptedFile file (net_count file) (input_count file)
 unfolding read_of
 read_accepted file e = accepted file (net_count file) (input_count file) (rw e refl)
 
 search_accepted : (given : SearchArguments) (found : Found) (sheet' pattern' work' store' : List ℕ)
-    → Searched given (answer.Found found) sheet' pattern' work' store' → AcceptedSearch given found sheet' pattern'
+    → Searched given (Ok found) sheet' pattern' work' store' → AcceptedSearch given found sheet' pattern'
 unfolding search_verdict
 search_accepted given found sheet' pattern' work' store' s =
-    let is = found_accepted (search_verdict given) (found_by given) found s.answered in
+    let is = answer_accepted (search_verdict given) (found_by given) found s.answered in
     let both = both_accepted (read_checks given.file) _ is.0 in
     record {
       file_accepted = read_accepted given.file both.0;
@@ -139,7 +134,7 @@ module _ (given : SearchArguments) (found : Found) (sheet pattern : List ℕ) (e
   says_of = subst (Says given.ratio found.upper found.lower) (sym said_is) (says given.ratio found.upper found.lower)
 
   module _ {room bytes work : List ℕ} {told : Currents} {simulated work' : List ℕ}
-      (run : Simulated (sharing given room bytes work) (currents.Found told) simulated work') where
+      (run : Simulated (sharing given room bytes work) (Ok told) simulated work') where
     simulation : AcceptedSimulation (sharing given room bytes work) told simulated
     simulation = simulation_accepted run
 
@@ -172,20 +167,19 @@ module _ (given : SearchArguments) (found : Found) (sheet pattern : List ℕ) (e
       ap length ended.pattern_is
       ∙ pattern_room file end.state.best.pattern given.pattern right.chosen ended.file_accepted.few_inputs ended.arguments.pattern_long
 
-  bytes_passed : verdict (byte_checks file pattern (input_count file)) ≡ verdict_is.Accepted
+  bytes_passed : verdict (byte_checks file pattern (input_count file)) ≡ Accepted
   bytes_passed = rw ended.pattern_is (pattern_passes file end.state.best.pattern given.pattern right.chosen)
 
   handed_passes : (room work : List ℕ) → length room ≡ 8192 → 160 * net_count file ≤ length work
-      → simulate_verdict (sharing given room pattern work) ≡ verdict_is.Accepted
+      → simulate_verdict (sharing given room pattern work) ≡ Accepted
   unfolding simulate_verdict size_checks
   handed_passes room work sheet_long work_long =
       accepted_first (read_checks file) _ ended.read_passed
       ∙ accepted_first (size_checks (net_count file) (length given.table) (length room) (length pattern) (length work)) _
-      (sym (more _ _ (more _ _ (more _ _ (more _ _ all_passed
-      (stays_accepted 12 0 ended.arguments.table_right_lem))
-      (stays_accepted 15 1 (eq-eqb (length room) 8192 sheet_long)))
-      (stays_accepted 15 2 (eq-eqb (length pattern) 64 pattern_long)))
-      (stays_accepted 15 3 (le-leb (160 * net_count file) (length work) work_long))))
+      (stays_accepted WrongTable 0 _ ended.arguments.table_right_lem
+      (stays_accepted WrongBuffer 1 _ (eq-eqb (length room) 8192 sheet_long)
+      (stays_accepted WrongBuffer 2 _ (eq-eqb (length pattern) 64 pattern_long)
+      (stays_accepted WrongBuffer 3 _ (le-leb (160 * net_count file) (length work) work_long) (sym all_passed)))))
       ∙ bytes_passed
 
   handed_drop : drop_of given.table (pattern_sheet file pattern) ≡ found.lower
@@ -193,13 +187,13 @@ module _ (given : SearchArguments) (found : Found) (sheet pattern : List ℕ) (e
   handed_drop =
       ap (λ p. simulated_drop file given.table p) handed_is ∙ right.reached ∙ sym lower_is
 
-  handed_over : (room work : List ℕ) (a : CurrentsAnswer) (simulated work' : List ℕ) → length room ≡ 8192 → 160 * net_count file ≤ length work
+  handed_over : (room work : List ℕ) (a : Result Currents Refusal) (simulated work' : List ℕ) → length room ≡ 8192 → 160 * net_count file ≤ length work
       → Simulated (sharing given room pattern work) a simulated work'
-      → a ≡ currents.Found (record { drop = found.lower; quiet = quiet_tick (pattern_sheet file pattern) })
+      → a ≡ Ok (record { drop = found.lower; quiet = quiet_tick (pattern_sheet file pattern) })
   handed_over room work a simulated work' sheet_long work_long s =
       s.answered
       ∙ ap (λ v. answer_after v (currents_of given.table (pattern_sheet file pattern))) (handed_passes room work sheet_long work_long)
-      ∙ ap (λ d. currents.Found (record { drop = d; quiet = quiet_tick (pattern_sheet file pattern) })) handed_drop
+      ∙ ap (λ d. Ok (record { drop = d; quiet = quiet_tick (pattern_sheet file pattern) })) handed_drop
 
   agrees : Agrees given found sheet pattern
   unfolding found_by
@@ -225,7 +219,7 @@ module _ (given : SearchArguments) (found : Found) (sheet pattern : List ℕ) (e
 
 -- The pattern buffer of an accepted search holds the search's pattern.
 pub pattern_handed : (given : SearchArguments) (found : Found) (sheet' pattern' work' store' : List ℕ)
-    → Searched given (answer.Found found) sheet' pattern' work' store' → pattern_of (input_count given.file) pattern' ≡ (search_of given).state.best.pattern
+    → Searched given (Ok found) sheet' pattern' work' store' → pattern_of (input_count given.file) pattern' ≡ (search_of given).state.best.pattern
 pattern_handed given found sheet' pattern' work' store' s =
     handed_is given found sheet' pattern' (search_accepted given found sheet' pattern' work' store' s)
 

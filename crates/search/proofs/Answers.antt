@@ -1,5 +1,8 @@
 -- What Search answers: the file is refused, another argument is refused, or the call is accepted and the search runs to its end.
 -- Assumes nothing.
+use Rattle.std.specs.Prelude.{Result, Ok, Err}
+use Rattle.block.specs.Verdict.{Verdict, Accepted}
+use Rattle.block.specs.declared.Counts.{Counts}
 use Prim.Native.Nat.{ℕ, ◌+◌}
 use mathlib.Core.List.{List, ◌++◌}
 use mathlib.Core.Path.{◌≡◌, refl, ap, ◌∙◌}
@@ -11,15 +14,9 @@ use Rattle.block.specs.Block.{frame, input_count}
 use Rattle.block.specs.Record.{net_count}
 use Rattle.block.specs.Refusals.{read_checks, read_of}
 use Rattle.block.specs.Verdict.{Check, verdict}
-use Rattle.block.specs.declared.ReadAnswer.{ReadAnswer}
-use Rattle.block.specs.declared.ReadAnswer.TheVariants as read_answer
-use Rattle.block.specs.declared.Refusal.{Refusal}
-use Rattle.block.specs.declared.Verdict.{Verdict}
-use Rattle.block.specs.declared.Verdict.TheVariants as verdict_is
-use Rattle.operation.specs.Operation.{buffer_after, WorkAfter}
+use Rattle.block.specs.declared.verdict.Refusal.{Refusal}
+use Rattle.operation.specs.Operation.{answer_after, buffer_after, WorkAfter}
 use Rattle.operation.specs.declared.Found.{Found}
-use Rattle.operation.specs.declared.SearchAnswer.{SearchAnswer}
-use Rattle.operation.specs.declared.SearchAnswer.TheVariants as answer
 use Rattle.operation.proofs.Operations.{by_file, by_arguments}
 use Rattle.sheet.specs.Sheet.{sheet_words, sheet_in, quiet_tick}
 use Rattle.sheet.proofs.Sheets.{quiet_of_words}
@@ -31,7 +28,7 @@ use Rattle.cases.specs.Store.{store_with, pattern_with}
 use Rattle.cases.proofs.Bytes.{store_is, pattern_is}
 use Rattle.cases.proofs.Records.{cases_long}
 use Rattle.bounds.specs.Bounds.{simulated_drop, envelope_drop, sheet_over}
-use Rattle.search.specs.Search.{SearchArguments, search_of, argument_checks, search_verdict, final_sheet, found_by, search_answer_after, Searched}
+use Rattle.search.specs.Search.{SearchArguments, search_of, argument_checks, search_verdict, final_sheet, found_by, Searched}
 use Rattle.search.specs.declared.run.RunEnd.{RunEnd}
 use Rattle.search.specs.Steps.{best_in, state_in, PastKept, FirstMade, Ran, BlockSearched}
 use Rattle.search.proofs.Running.{past_kept}
@@ -101,38 +98,38 @@ module _ (given : SearchArguments) {setting : Setting} (accepted : AcceptedFile 
             ∙ ap (λ cases. store_with cases given.store) (cases_held ∙ ap (λ f. f.state.cases) end_is);
       }
 
-module _ (given : SearchArguments) {read : ReadAnswer} (is : read ≡ read_of given.file) where
+module _ (given : SearchArguments) {read : Result Counts Refusal} (is : read ≡ read_of given.file) where
   abbrev checks : ℕ → ℕ → List Check
   checks nets inputs =
       argument_checks nets inputs given.hops (length given.table) given.ratio given.budget given.order (length given.sheet) (length given.pattern)
       (length given.work) (length given.store)
 
   -- What Search promises, by the verdict.
-  abbrev Promised : SearchAnswer → List ℕ → List ℕ → List ℕ → List ℕ → Verdict → Type 0
+  abbrev Promised : Result Found Refusal → List ℕ → List ℕ → List ℕ → List ℕ → Verdict → Type 0
   Promised r sheet' pattern' work' store' v =
-      (r ≡ search_answer_after v (found_by given))
+      (r ≡ answer_after v (found_by given))
       × (sheet' ≡ buffer_after v (sheet_words (final_sheet given)) given.sheet)
       × (pattern' ≡ buffer_after v (pattern_with (search_of given).state.best.pattern given.pattern) given.pattern)
       × (store' ≡ buffer_after v (store_with (search_of given).state.cases given.store) given.store)
       × WorkAfter v given.work work'
 
-  searched : (r : SearchAnswer) (sheet' pattern' work' store' : List ℕ)
+  searched : (r : Result Found Refusal) (sheet' pattern' work' store' : List ℕ)
       → Promised r sheet' pattern' work' store' (verdict (read_checks given.file ++ checks (net_count given.file) (input_count given.file)))
       → Searched given r sheet' pattern' work' store'
   unfolding search_verdict
   searched r sheet' pattern' work' store' p = record { answered = p.0; sheet_written = p.1; pattern_written = p.2; store_written = p.3; kept = p.4 }
 
-  pub file_refused : (r : Refusal) → read ≡ read_answer.Refused r
-      → Searched given (answer.Refused r) given.sheet given.pattern given.work given.store
-  file_refused r told = searched _ _ _ _ _ (by_file given.file checks (Promised _ _ _ _ _) is told (refl, refl, refl, refl, refl))
+  pub file_refused : (r : Refusal) {a : Result Found Refusal} → read ≡ Err r → a ≡ Err r
+      → Searched given a given.sheet given.pattern given.work given.store
+  file_refused r told answered = searched _ _ _ _ _ (by_file given.file checks (Promised _ _ _ _ _) is told (answered, refl, refl, refl, refl))
 
-  module _ (nets inputs : ℕ) (told : read ≡ read_answer.Counts nets inputs) {v : Verdict} (checked : v ≡ verdict (checks nets inputs)) where
-    pub argument_refused : (r : Refusal) → v ≡ verdict_is.Refused r
-        → Searched given (answer.Refused r) given.sheet given.pattern given.work given.store
-    argument_refused r said = searched _ _ _ _ _ (by_arguments given.file checks (Promised _ _ _ _ _) is told checked said (refl, refl, refl, refl, refl))
+  module _ (found : Counts) (told : read ≡ Ok found) {v : Verdict} (checked : v ≡ verdict (checks found.nets found.inputs)) where
+    pub argument_refused : (r : Refusal) {a : Result Found Refusal} → v ≡ Err r → a ≡ Err r
+        → Searched given a given.sheet given.pattern given.work given.store
+    argument_refused r said answered = searched _ _ _ _ _ (by_arguments given.file checks (Promised _ _ _ _ _) is told checked said (answered, refl, refl, refl, refl))
 
-    pub call_accepted : (answered : Found) (sheet' pattern' work' store' : List ℕ) → v ≡ verdict_is.Accepted
-        → BlockSearched given answered sheet' pattern' store' → Searched given (answer.Found answered) sheet' pattern' work' store'
+    pub call_accepted : (answered : Found) (sheet' pattern' work' store' : List ℕ) → v ≡ Accepted
+        → BlockSearched given answered sheet' pattern' store' → Searched given (Ok answered) sheet' pattern' work' store'
     call_accepted answered sheet' pattern' work' store' said b =
         searched _ _ _ _ _
-        (by_arguments given.file checks (Promised _ _ _ _ _) is told checked said (ap answer.Found b.answered, b.sheet_written, b.pattern_written, b.store_written, tt))
+        (by_arguments given.file checks (Promised _ _ _ _ _) is told checked said (ap Ok b.answered, b.sheet_written, b.pattern_written, b.store_written, tt))

@@ -1,5 +1,6 @@
 -- Laws of the frame of an accepted file: none of its sets is empty, and the bytes of each of its patterns pass check 16.
 -- Assumes nothing.
+use Rattle.block.specs.Verdict.{Accepted}
 use Prim.Native.Nat.{ℕ, ◌≤◌, ◌<◌}
 use mathlib.Core.Bool.{true}
 use mathlib.Core.List.{List, map}
@@ -17,7 +18,6 @@ use Rattle.block.specs.Accepted.{AcceptedFile}
 use Rattle.block.specs.Block.{frame, input_count, Choice}
 use Rattle.block.specs.Record.{File, allowed}
 use Rattle.block.specs.Verdict.{verdict}
-use Rattle.block.specs.declared.Verdict.TheVariants as verdict_is
 use Rattle.block.proofs.Accepted.{allows_some}
 use Rattle.block.proofs.Frames.{frame_at, frame_long}
 use Rattle.cases.specs.Case.{probe}
@@ -63,5 +63,5 @@ module _ (file : File) (pattern : List Excitation) (given : List ℕ) (choice : 
       (subst (λ s. get_or pattern net l ∈ s) (frame_at file net h) (pairs_in ◌∈◌ choice l empty net (rw pattern_long h)))))
 
   -- Check 16 lets it pass.
-  pub pattern_passes : verdict (byte_checks file (pattern_with pattern given) (input_count file)) ≡ verdict_is.Accepted
+  pub pattern_passes : verdict (byte_checks file (pattern_with pattern given) (input_count file)) ≡ Accepted
   pattern_passes = bytes_pass file (pattern_with pattern given) (input_count file) allowed_here

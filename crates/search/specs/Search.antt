@@ -1,17 +1,16 @@
 -- Search (document 01, "Search" and "Refusals in checking order"; request 3): its checks, its answer and its buffers.
+use Rattle.std.specs.Prelude.{Result}
+use Rattle.block.specs.Verdict.{Verdict}
+use Rattle.block.specs.declared.verdict.Refusal.{Refusal}
 use Rattle.std.specs.Prelude.{ℕ, List, [], ◌∷◌, ◌++◌, ◌≡◌, length}
 use Rattle.block.specs.Block.{frame, input_count}
 use Rattle.block.specs.Record.{File, net_count}
 use Rattle.block.specs.Refusals.{read_checks}
 use Rattle.block.specs.Verdict.{Check, verdict}
-use Rattle.block.specs.declared.Verdict.{Verdict}
-use Rattle.block.specs.declared.Verdict.TheVariants as verdict_is
 use Rattle.operation.specs.Arguments.{hops_check, table_check, ratio_check, budget_check, sheet_check, pattern_check, work_check, store_check}
-use Rattle.operation.specs.Operation.{buffer_after, WorkAfter}
+use Rattle.operation.specs.Operation.{answer_after, buffer_after, WorkAfter}
 use Rattle.operation.specs.SplitOrder.{order_check}
 use Rattle.operation.specs.declared.Found.{Found}
-use Rattle.operation.specs.declared.SearchAnswer.{SearchAnswer}
-use Rattle.operation.specs.declared.SearchAnswer.TheVariants as answer
 use Rattle.sheet.specs.Sheet.{Sheet, sheet_words, quiet_tick}
 use Rattle.cases.specs.Choice.{first_undecided}
 use Rattle.cases.specs.Search.{SearchEnd, greatest_upper, search}
@@ -80,15 +79,11 @@ found_by given =
     }
 
 -- Search's answer: what the search found, or the refusal.
-abbrev pub search_answer_after : Verdict → Found → SearchAnswer
-search_answer_after verdict_is.Accepted found = answer.Found found
-search_answer_after (verdict_is.Refused r) found = answer.Refused r
-
-abbrev pub search_answer : SearchArguments → SearchAnswer
-search_answer given = search_answer_after (search_verdict given) (found_by given)
+abbrev pub search_answer : SearchArguments → Result Found Refusal
+search_answer given = answer_after (search_verdict given) (found_by given)
 
 -- What Search promises: its answer, and each buffer as it leaves it.
-pub record Searched (given : SearchArguments) (answer : SearchAnswer) (sheet' pattern' work' store' : List ℕ) : Type 0 where
+pub record Searched (given : SearchArguments) (answer : Result Found Refusal) (sheet' pattern' work' store' : List ℕ) : Type 0 where
   pub answered : answer ≡ search_answer given
   pub sheet_written : sheet' ≡ buffer_after (search_verdict given) (sheet_words (final_sheet given)) given.sheet
   pub pattern_written : pattern' ≡ buffer_after (search_verdict given) (pattern_with (search_of given).state.best.pattern given.pattern) given.pattern

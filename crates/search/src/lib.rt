@@ -7,11 +7,11 @@ ghost use Rattle.evaluation.specs.Evaluation.{Evaluable};
 ghost use Rattle.search.specs.Search.{Searched};
 ghost use Rattle.search.specs.Steps.{FirstMade, BlockSearched};
 
-use block::{ReadAnswer, Verdict};
+use block::{Counts, Refusal};
 use bounds::{draw, make};
 use cases::CaseNumber;
 use evaluation::Setting;
-use operation::{Found, SearchAnswer};
+use operation::Found;
 use sheet::Word;
 
 mod arguments;
@@ -105,37 +105,29 @@ pub fn search(
     pattern: &mut [u8],
     work: &mut [u8],
     store: &mut [u8],
-) -> SearchAnswer
+) -> Result<Found, Refusal>
     ensures { Searched (record { file = file.now; hops = hops; table = table.now; ratio = ratio; budget = budget; order = order.now; sheet = sheet.old; pattern = pattern.old; work = work.old; store = store.old }) result sheet.new pattern.new work.new store.new }
 {
-    match block::read(file) {
-        ReadAnswer::Refused(r) => SearchAnswer::Refused(r),
-        ReadAnswer::Counts { nets, inputs } => {
-            match arguments::check_arguments(
-                nets as usize,
-                inputs as usize,
-                hops,
-                table.len(),
-                ratio,
-                budget,
-                order,
-                sheet.len(),
-                pattern.len(),
-                work.len(),
-                store.len(),
-            ) {
-                Verdict::Refused(r) => SearchAnswer::Refused(r),
-                Verdict::Accepted => {
-                    let setting = Setting {
-                        nets: nets as usize,
-                        inputs: inputs as usize,
-                        hops: hops as usize,
-                    };
-                    SearchAnswer::Found(search_block(
-                        file, setting, table, ratio, budget, order, sheet, pattern, work, store,
-                    ))
-                }
-            }
-        }
-    }
+    let Counts { nets, inputs } = block::read(file)?;
+    arguments::check_arguments(
+        nets,
+        inputs,
+        hops,
+        table.len(),
+        ratio,
+        budget,
+        order,
+        sheet.len(),
+        pattern.len(),
+        work.len(),
+        store.len(),
+    )?;
+    let setting = Setting {
+        nets,
+        inputs,
+        hops: hops as usize,
+    };
+    Ok(search_block(
+        file, setting, table, ratio, budget, order, sheet, pattern, work, store,
+    ))
 }

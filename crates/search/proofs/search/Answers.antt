@@ -1,16 +1,25 @@
 -- `search::search` meets its contract.
 -- Assumes nothing.
-use mathlib.Core.Path.{sym, ◌∙◌}
+use mathlib.Core.Path.{refl, sym, ◌∙◌}
+use Rattle.block.proofs.Verdicts.{handed_on}
 use Rattle.operation.proofs.Operations.{file_accepted}
 use Rattle.operation.proofs.SplitOrders.{nets_listed}
 use Rattle.search.proofs.Accepted.{arguments_right}
 use Rattle.search.proofs.Answers.{file_refused, argument_refused, call_accepted}
 use Rattle.search.proofs.search.Goals as goal
 
+pub returns-in_err-nets : goal.returns-in_err-nets
+returns-in_err-nets c = file_refused _ c.read.ensures _ c.in_err-nets.was (handed_on c.from_residual.ensures.1 refl)
+
+pub returns-in_err-check_arguments : goal.returns-in_err-check_arguments
+returns-in_err-check_arguments c =
+    argument_refused _ c.read.ensures _ c.in_ok-nets.was c.check_arguments.ensures _ c.in_err-check_arguments.was
+    (handed_on c.from_residual-in_err-check_arguments.ensures.1 refl)
+
 pub search_block-requires : goal.search_block-requires
 search_block-requires c =
-    let file = file_accepted c.read.ensures c.in-Counts.is in
-    let right = arguments_right _ _ _ _ _ _ _ _ _ _ _ (sym c.check_arguments.ensures ∙ c.in-Accepted.is) in (
+    let file = file_accepted c.read.ensures c.in_ok-nets.was in
+    let right = arguments_right _ _ _ _ _ _ _ _ _ _ _ (sym c.check_arguments.ensures ∙ c.in_ok-check_arguments.was) in (
       record {
         accepted = file;
         some_hops = right.some_hops;
@@ -24,11 +33,5 @@ search_block-requires c =
       right.store_long,
     )
 
-pub returns-in-Refused : goal.returns-in-Refused
-returns-in-Refused c = file_refused _ c.read.ensures _ c.in-Refused.is
-
-pub returns-in-Refused-check_arguments : goal.returns-in-Refused-check_arguments
-returns-in-Refused-check_arguments c = argument_refused _ c.read.ensures _ _ c.in-Counts.is c.check_arguments.ensures _ c.in-Refused-check_arguments.is
-
-pub returns-in-Accepted : goal.returns-in-Accepted
-returns-in-Accepted c = call_accepted _ c.read.ensures _ _ c.in-Counts.is c.check_arguments.ensures _ _ _ _ _ c.in-Accepted.is c.search_block.ensures
+pub returns : goal.returns
+returns c = call_accepted _ c.read.ensures _ c.in_ok-nets.was c.check_arguments.ensures _ _ _ _ _ c.in_ok-check_arguments.was c.search_block.ensures
