@@ -50,8 +50,7 @@ fn read_input<R: Read>(input: &mut R, room: &mut [u8]) -> io::Result<usize>
 fn print<W: Write>(output: &mut W, file: &[u8]) -> io::Result<()>
     ensures { OnOk result (Appends (W.contents output.old) (W.contents output.new) (program_text file.now)) }
 {
-    let text = program::printed(file);
-    output.write_all(&text.bytes[..text.used])
+    output.write_all(program::printed(file).as_bytes())
 }
 
 // Reads an input as far as the program needs, and writes what it prints for it.

@@ -6,14 +6,22 @@ use mathlib.Core.List.{List, [], ◌∷◌, ◌++◌}
 use mathlib.Core.Path.{◌≡◌, refl, ap, sym, subst, ◌∙◌}
 use native.Mathlib.Omega.{arith}
 use lib.Dec.{ltb}
-use lib.ListN.{length, get_or}
+use lib.ListN.{length, get_or, take}
+use Rattle.std.proofs.lemmas.List.{get_or-take, length-take-le}
 use Rattle.laws.specs.Turn.{list_below}
-use Rattle.laws.proofs.Turn.{list_at, list_long, list_map}
+use Rattle.laws.proofs.Turn.{list_at, list_long, list_map, list_same}
 use Rattle.excitation.specs.Excitation.{excitation_of, pattern_of}
 use Rattle.arrayvec.specs.ArrayString.{ArrayString}
 use Rattle.program.specs.Lines.{line, written, Added}
 use Rattle.program.specs.Program.{excitation_word, pattern_words}
 use Rattle.program.proofs.Texts.{WordsWritten, written_next}
+
+-- The bytes of the inputs alone have the same pattern.
+pub pattern_cut : (inputs : ℕ) (bytes : List ℕ) → inputs ≤ length bytes → pattern_of (length (take inputs bytes)) (take inputs bytes) ≡ pattern_of inputs bytes
+unfolding pattern_of
+pattern_cut inputs bytes few =
+    rw (length-take-le inputs bytes few)
+    (list_same inputs _ _ (excitation_of 0) (λ net h. ap excitation_of (get_or-take inputs bytes net 0 h)))
 
 module _ (inputs : ℕ) (bytes : List ℕ) where
   abbrev words : List (List ℕ)

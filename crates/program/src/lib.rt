@@ -87,18 +87,14 @@ fn found_line(found: Found) -> Text
     text
 }
 
-// The line of the pattern, one word per input, after a text.
-fn pattern_line(before: Text, pattern: &[u8], inputs: usize) -> Text
-    requires { (length (written before) ≤ 91) × (1 ≤ inputs) × (inputs ≤ 64) × (inputs ≤ length pattern.now) }
-    ensures { Printed (written before ++ line (pattern_words (pattern_of inputs pattern.now))) result }
+// The line of a pattern, one word for each byte, after a text.
+fn pattern_line(before: Text, pattern: &[u8]) -> Text
+    requires { (length (written before) ≤ 91) × (1 ≤ length pattern.now) × (length pattern.now ≤ 64) }
+    ensures { Printed (written before ++ line (pattern_words (pattern_of (length pattern.now) pattern.now))) result }
 {
     let mut text = before;
-    for net in 0..inputs {
-        push_word(
-            &mut text,
-            excitation_word(pattern[net]),
-            separator(net, inputs),
-        );
+    for (net, byte) in pattern.iter().enumerate() {
+        push_word(&mut text, excitation_word(*byte), separator(net, pattern.len()));
     }
     text
 }
@@ -126,7 +122,7 @@ fn search_text(file: &[u8], order: &[u8]) -> Text
         &mut store,
     ) {
         SearchAnswer::Refused(r) => refusal_text(r),
-        SearchAnswer::Found(found) => pattern_line(found_line(found), &pattern, order.len()),
+        SearchAnswer::Found(found) => pattern_line(found_line(found), &pattern[..order.len()]),
     }
 }
 
