@@ -1,5 +1,5 @@
 -- What reading an input comes to, and what the program does with it.
-use Rattle.std.specs.Prelude.{ℕ, ◌≡◌, ◌≤◌, ◌<◌, List, take, length, codes, Option, IfSome, Result, Ok, Err, IfOk}
+use Rattle.std.specs.Prelude.{ℕ, ◌≤◌, ◌<◌, List, take, length, codes, Option, IfSome, Result, Ok, Err, IfOk}
 use Rattle.std.specs.Io.KnownBytes.{Keeps, Appends, Consumes, IsAtEnd}
 use Rattle.program.specs.Program.{program_text}
 use Rattle.estimate.specs.declared.Failure.{Failure}

@@ -6,9 +6,8 @@ ghost use Rattle.std.specs.Io.KnownBytes.{Appends};
 ghost use Rattle.program.specs.Program.{program_text};
 ghost use Rattle.estimate.specs.Reading.{failure_text, Within, IsRead, IsAnswered};
 
-use std::fmt;
-use std::io;
 use std::io::{Read, Write};
+use std::{fmt, io};
 
 // Why an input has no answer: it could not be read, or the text for it could not be written whole.
 #[derive(Clone, Copy, Debug, PartialEq, Eq)]
@@ -35,7 +34,7 @@ fn read_input<R: Read>(input: &mut R, room: &mut [u8]) -> io::Result<usize>
     ensures kept { length room.new ≡ length room.old }
 {
     let mut done = 0;
-    // A `while`, since nothing is counted: each read gives as many bytes as it likes.
+    // Form kept: a `for` is no plainer, since nothing is counted: each read gives as many bytes as it likes.
     while done < room.len() {
         let n = input.read(&mut room[done..])?;
         if n == 0 {

@@ -94,7 +94,8 @@ fn pattern_line(before: Text, pattern: &[u8]) -> Text
 {
     let mut text = before;
     for (net, byte) in pattern.iter().enumerate() {
-        push_word(&mut text, excitation_word(*byte), separator(net, pattern.len()));
+        let end = separator(net, pattern.len());
+        push_word(&mut text, excitation_word(*byte), end);
     }
     text
 }

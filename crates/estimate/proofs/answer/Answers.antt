@@ -11,4 +11,4 @@ returns g c =
     let ends = IfOk-at_ok _ read c.read_input.ensures.bytes in
     let within = IfOk-at_ok _ read c.read_input.ensures.within in
     written_or_not _ _ _ _ c.print.result c.map_err-2.result (λ e f renamed. search rules) c.print.ensures c.map_err-2.ensures.cases
-        (answered _ _ _ _ c.in_ok-n.n c.read_input.new.room (omega arith) (omega (arith, within)) ends.0 ends.1)
+    (answered _ _ _ _ c.in_ok-n.n c.read_input.new.room (omega arith) (omega (arith, within)) ends.0 ends.1)

@@ -1,7 +1,6 @@
 -- `estimate::read_input`: what a further read leaves of the invariant.
 -- Assumes nothing.
 use Rattle.std.proofs.Common.{rules, arith, length, ◌-◌}
-use Rattle.std.proofs.lemmas.List.{length-take, length-drop}
 use Rattle.estimate.proofs.Inputs.{read_on}
 use Rattle.estimate.proofs.read_input.Goals as goal
 

@@ -14,7 +14,7 @@ loop-net-preserved c =
     let bytes = c.args.pattern.now in
     let word = c.excitation_word.ensures in (
       search (rules, length-append),
-      pattern_next (length bytes) bytes (search rules) c.loop-net.invariant.1 (rw word.0 at c.push_word.ensures) c.separator.ensures.byte,
+      pattern_next (length bytes) bytes (search rules) c.loop-net.invariant.1 (rw word.0 at c.push_word.ensures) c.separator-end.ensures.byte,
     )
 
 pub returns : goal.returns

@@ -25,4 +25,4 @@ returns-in-Found c =
     let first = c.found_line in
     let counted = ap length c.requires.0 ∙ cone_order_long _ in
     search_found _ (searched_with _ _ c.requires.0 c.search.ensures) _ first.result c.pattern_line.result c.in-Found.is
-        (pattern_cut _ _ (search rules) ∙ ap (λ n. pattern_of n c.search.new.pattern) counted) first.ensures.0 c.pattern_line.ensures
+    (pattern_cut _ _ (search rules) ∙ ap (λ n. pattern_of n c.search.new.pattern) counted) first.ensures.0 c.pattern_line.ensures
