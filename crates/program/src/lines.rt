@@ -15,6 +15,8 @@ pub fn separator(k: usize, n: usize) -> char
 }
 
 // A word more, and the character after it: a blank or the line's end.
+// Form kept: `write!` over an `impl Display` was tried, and the proof didn't close. Its contract says what an `Ok` wrote, and not when it
+// comes; `printed` cannot fail, and promises the whole text.
 pub fn push_word(text: &mut Text, word: &str, end: char)
     requires room { length (written text.old) + length word.now < 320 }
     requires ascii { end < 128 }
