@@ -1,6 +1,6 @@
 -- What a count of bytes read says, and what several reads come to.
 -- Assumes nothing.
-use Rattle.std.proofs.Common.{ℕ, ◌+◌, ◌≤◌, ◌<◌, ◌≡◌, List, [], ◌++◌, length, take, Option, None, Some, IfSome}
+use Rattle.std.proofs.Common.{ℕ, ◌+◌, ◌≤◌, ◌<◌, ◌≡◌, List, [], ◌++◌, length, take, Option, None, Some, IfSome, Result, Ok, Err, OnOk, MatchResult, IsErrAnd}
 use Rattle.std.proofs.Common.{ltb, ltb-true, ltb-false, subst, sym, ap, ◌∙◌, arith}
 use Rattle.std.proofs.Math.Seq.{take-append-add, take-append_seam}
 use Rattle.std.proofs.lemmas.List.{length-take, take-append-le, take_all, append_assoc, append-nil}
@@ -9,12 +9,9 @@ use borrow.Rule.Slice.PartMut.{put_mid, post_of}
 use Rattle.std.specs.Io.KnownBytes.{Consumes, Appends, IsAtEnd}
 use Rattle.program.specs.Program.{most_bytes, program_text}
 use Rattle.program.proofs.Searches.{read_enough}
-use Rattle.estimate.specs.Reading.{Within}
-use Rattle.estimate.specs.declared.Input.{Input}
-use Rattle.estimate.specs.declared.Input.TheVariants.{Bytes}
-
-pub read_within : {room n : ℕ} {input : Input} → Within room input → input ≡ Bytes n → n ≤ room
-read_within {room} within told = subst (Within room) told within
+use Rattle.estimate.specs.Reading.{IsAnswered}
+use Rattle.estimate.specs.declared.Failure.{Failure}
+use Rattle.estimate.specs.declared.Failure.TheVariants.{Unwritten}
 
 -- Two reads are one of the bytes of both.
 pub consumes_more : (before between after : Option (List ℕ)) (xs ys : List ℕ) → Consumes before between xs
@@ -57,3 +54,19 @@ answered (Some file) (Some rest) held written n room long fits read end added =
     ap (take (most_bytes + 1)) whole ∙ subst (λ m. take m (room ++ rest) ≡ room) long (take-append_seam room rest) in
     ap program_text (full ∙ sym cut) ∙ read_enough file)))
     added
+
+-- Where the failure of a read was renamed and none came, there was none.
+pub read_done : {E F : Type 0} (why : E → F → Type 0) (read : Result ℕ E) (renamed : Result ℕ F) (n : ℕ) → renamed ≡ Ok n
+    → MatchResult read (λ x. renamed ≡ Ok x) (λ e. IsErrAnd renamed (why e)) → read ≡ Ok n
+read_done why (Ok x) renamed n told same = grind (arith, told, same)
+read_done why (Err e) renamed n told same = elim (subst (λ r. IsErrAnd r (why e)) told same) [ ]
+
+-- What a write comes to, where its failure was renamed.
+pub written_or_not : {E added : Type 0} (input before after : Option (List ℕ)) (why : E → Failure → Type 0) (write : Result (Unit {0}) E)
+    (result : Result (Unit {0}) Failure) → ((e : E) (f : Failure) → why e f → f ≡ Unwritten) → OnOk write added
+    → MatchResult write (λ x. result ≡ Ok x) (λ e. IsErrAnd result (why e))
+    → (added → IfSome input (λ file. Appends before after (program_text file))) → IsAnswered input before after result
+written_or_not input before after why (Ok done) result renamed added same whole = subst (IsAnswered input before after) (sym same) (whole added)
+written_or_not input before after why (Err e) (Ok done) renamed added same whole = elim same [ ]
+written_or_not input before after why (Err e) (Err f) renamed added same whole =
+    subst (λ f. IsAnswered input before after (Err f)) (sym (renamed e f same)) tt

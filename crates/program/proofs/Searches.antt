@@ -10,6 +10,7 @@ use native.Mathlib.Omega.{arith}
 use borrow.Table.Steps.{cases}
 use borrow.Author.Tests.{lt-ltb, le-ltb, ltb-true, ltb-false}
 use Rattle.excitation.specs.Excitation.{pattern_of}
+use Rattle.excitation.specs.declared.Excitation.{Excitation}
 use Rattle.block.specs.Block.{input_count}
 use Rattle.block.specs.Record.{File}
 use Rattle.block.specs.Refusals.{read_of}
@@ -23,7 +24,7 @@ use Rattle.operation.proofs.Operations.{by_file}
 use Rattle.cases.specs.SplitOrder.{cone_order}
 use Rattle.search.specs.Search.{search_of, argument_checks, search_verdict, found_by, search_answer_after, Searched}
 use Rattle.search.proofs.Agreement.{pattern_handed}
-use Rattle.program.specs.declared.Text.{Text}
+use Rattle.arrayvec.specs.ArrayString.{ArrayString}
 use Rattle.program.specs.Lines.{line, written, Printed}
 use Rattle.program.specs.Program.{most_bytes, arguments_with, program_arguments, found_words, pattern_words, refusal_text, answer_text, search_text, program_text}
 
@@ -82,12 +83,13 @@ module _ (file : File) where
         (pattern_handed (program_arguments file) found sheet' pattern' work' store' (subst (λ b. Searched (program_arguments file) b sheet' pattern' work' store') told s))
         ∙ ap (λ b. answer_text b (search_of (program_arguments file)).state.best.pattern) (sym told ∙ s.answered)
 
-    pub search_found : {found : Found} (inputs : ℕ) (first text : Text) → a ≡ answer.Found found → inputs ≡ input_count file → written first ≡ line (found_words found)
-        → Printed (written first ++ line (pattern_words (pattern_of inputs pattern'))) text → Printed (search_text file) text
-    search_found {found} inputs first text told counted begun printed = record {
+    pub search_found : {found : Found} (pattern : List Excitation) (first text : ArrayString) → a ≡ answer.Found found
+        → pattern ≡ pattern_of (input_count file) pattern' → written first ≡ line (found_words found)
+        → Printed (written first ++ line (pattern_words pattern)) text → Printed (search_text file) text
+    search_found {found} pattern first text told same begun printed = record {
       is = printed.is
-          ∙ ap (λ t. t ++ line (pattern_words (pattern_of inputs pattern'))) begun
-          ∙ ap (λ n. line (found_words found) ++ line (pattern_words (pattern_of n pattern'))) counted
+          ∙ ap (λ t. t ++ line (pattern_words pattern)) begun
+          ∙ ap (λ p. line (found_words found) ++ line (pattern_words p)) same
           ∙ found_text told;
       fits = printed.fits;
     }

@@ -1,6 +1,6 @@
 -- Text as bytes: words, numbers and lines (for document 01, "Program").
-use Rattle.std.specs.Prelude.{ℕ, zero, suc, ◌+◌, ◌/◌, ◌%◌, ◌≤◌, true, false, List, [], ◌∷◌, ◌++◌, ◌≡◌, ltb, length, take}
-use Rattle.program.specs.declared.Text.{Text}
+use Rattle.std.specs.Prelude.{ℕ, zero, suc, ◌+◌, ◌/◌, ◌%◌, ◌≤◌, true, false, List, [], ◌∷◌, ◌++◌, ◌≡◌, ltb, length}
+use Rattle.arrayvec.specs.ArrayString.{ArrayString}
 
 -- In ASCII 48 to 57 are the digits, 32 is the blank, and 10 ends a line.
 
@@ -21,15 +21,15 @@ line (word ∷ []) = word ++ (10 ∷ [])
 line (word ∷ next ∷ rest) = word ++ (32 ∷ line (next ∷ rest))
 
 -- What a text holds.
-abbrev pub written : Text → List ℕ
-written text = take text.used text.bytes
+abbrev pub written : ArrayString → List ℕ
+written text = text.bytes
 
 -- A text with some bytes more.
-pub record Added (text : Text) (more : List ℕ) (text' : Text) : Type 0 where
+pub record Added (text : ArrayString) (more : List ℕ) (text' : ArrayString) : Type 0 where
   pub bytes : written text' ≡ written text ++ more
-  pub used : text'.used ≡ text.used + length more
+  pub used : length (written text') ≡ length (written text) + length more
 
 -- A text that holds these bytes, in its buffer of 320.
-pub record Printed (bytes : List ℕ) (text : Text) : Type 0 where
+pub record Printed (bytes : List ℕ) (text : ArrayString) : Type 0 where
   pub is : written text ≡ bytes
-  pub fits : text.used ≤ 320
+  pub fits : length (written text) ≤ 320

@@ -1,26 +1,25 @@
 // The program: everything between the bytes that it reads and the bytes that it prints.
 #![tactic(auto)]
 
-ghost use Rattle.std.specs.Prelude.{[], ◌∷◌, ◌++◌, ◌≡◌, ◌≤◌, length};
-ghost use Rattle.excitation.specs.Excitation.{pattern_of};
+ghost use Rattle.std.specs.Prelude.{◌++◌, ◌≡◌, ◌≤◌, length};
+ghost use Rattle.excitation.specs.Excitation.{excitation_of, pattern_of};
 ghost use Rattle.cases.specs.SplitOrder.{cone_order};
 ghost use Rattle.program.specs.Lines.{line, written, Printed};
-ghost use Rattle.program.specs.Program.{outcome_word, refusal_text, found_words, pattern_words, search_text, program_text};
+ghost use Rattle.program.specs.Program.{outcome_word, excitation_word, refusal_text, found_words, pattern_words, search_text, program_text};
 
+use arrayvec::ArrayString;
 use block::Refusal;
-use operation::{Found, OrderAnswer, Outcome, SearchAnswer};
+use excitation::excitation_of;
+use lines::{push_number, push_word, separator};
+use operation::{Found, OrderAnswer, Outcome, SearchAnswer, SplitOrder};
 use sheet::Word;
 use split_order::by_cone;
 
 mod lines;
 
-// Text in a buffer of its own: the first `used` bytes. The longest that the program prints has 283: a line of at most 91, of a word of 6
-// and four numbers of 20 digits, and a line of at most 192, of 64 words of 2.
-#[derive(Clone, Copy)]
-pub struct Text {
-    pub bytes: [u8; 320],
-    pub used: usize,
-}
+// The text that the program prints. The longest has 283 bytes: a line of at most 91, of a word of 6 and four numbers of 20 digits, and a
+// line of at most 192, of 64 words of 2.
+pub type Text = ArrayString<320>;
 
 // The most bytes that the program takes: 256 records.
 const MOST: usize = 5120;
@@ -43,45 +42,60 @@ pub fn room() -> [u8; 5121]
 fn refusal_text(r: Refusal) -> Text
     ensures { Printed (refusal_text r) result }
 {
-    lines::empty()
-        .word(b"refused", b' ')
-        .number(r.number, b' ')
-        .number(r.place, b'\n')
+    let mut text = Text::new();
+    push_word(&mut text, "refused", ' ');
+    push_number(&mut text, r.number, ' ');
+    push_number(&mut text, r.place, '\n');
+    text
 }
 
-// The word of an outcome, and a blank.
-fn outcome_word(outcome: Outcome) -> Text
-    ensures { (written result ≡ outcome_word outcome ++ (32 ∷ [])) × (result.used ≤ 7) }
+// The word of an outcome.
+fn outcome_word(outcome: Outcome) -> &'static str
+    ensures { (result.now ≡ outcome_word outcome) × (length result.now ≤ 6) }
 {
     match outcome {
-        Outcome::Exact => lines::empty().word(b"exact", b' '),
-        Outcome::Within => lines::empty().word(b"within", b' '),
-        Outcome::Spent => lines::empty().word(b"spent", b' '),
+        Outcome::Exact => "exact",
+        Outcome::Within => "within",
+        Outcome::Spent => "spent",
+    }
+}
+
+// The word of an excitation, by its byte.
+#[tactic(auto, unfolding(crate::specs::Program::excitation_word))]
+fn excitation_word(byte: u8) -> &'static str
+    ensures { (result.now ≡ excitation_word (excitation_of byte)) × (length result.now ≤ 2) }
+{
+    let excitation = excitation_of(byte);
+    match (excitation.before, excitation.after) {
+        (true, true) => "h",
+        (true, false) => "hl",
+        (false, true) => "lh",
+        (false, false) => "l",
     }
 }
 
 // The line of outcome, U, L, splits, cases.
 fn found_line(found: Found) -> Text
-    ensures { (written result ≡ line (found_words found)) × (result.used ≤ 91) }
+    ensures { (written result ≡ line (found_words found)) × (length (written result) ≤ 91) }
 {
-    let outcome = found.outcome;
-    outcome_word(outcome)
-        .number(found.upper, b' ')
-        .number(found.lower, b' ')
-        .number(found.splits, b' ')
-        .number(found.cases, b'\n')
+    let mut text = Text::new();
+    push_word(&mut text, outcome_word(found.outcome), ' ');
+    push_number(&mut text, found.upper, ' ');
+    push_number(&mut text, found.lower, ' ');
+    push_number(&mut text, found.splits, ' ');
+    push_number(&mut text, found.cases, '\n');
+    text
 }
 
-// The line of the pattern, one word per input, after a text.
-fn pattern_line(before: Text, pattern: &[u8], inputs: usize) -> Text
-    requires { (before.used ≤ 91) × (1 ≤ inputs) × (inputs ≤ 64) × (inputs ≤ length pattern.now) }
-    ensures { Printed (written before ++ line (pattern_words (pattern_of inputs pattern.now))) result }
+// The line of a pattern, one word for each byte, after a text.
+fn pattern_line(before: Text, pattern: &[u8]) -> Text
+    requires { (length (written before) ≤ 91) × (1 ≤ length pattern.now) × (length pattern.now ≤ 64) }
+    ensures { Printed (written before ++ line (pattern_words (pattern_of (length pattern.now) pattern.now))) result }
 {
     let mut text = before;
-    let mut net: usize = 0;
-    while net < inputs {
-        text = text.excitation(pattern[net], lines::separator(net, inputs));
-        net += 1;
+    for (net, byte) in pattern.iter().enumerate() {
+        let end = separator(net, pattern.len());
+        push_word(&mut text, excitation_word(*byte), end);
     }
     text
 }
@@ -109,7 +123,7 @@ fn search_text(file: &[u8], order: &[u8]) -> Text
         &mut store,
     ) {
         SearchAnswer::Refused(r) => refusal_text(r),
-        SearchAnswer::Found(found) => pattern_line(found_line(found), &pattern, order.len()),
+        SearchAnswer::Found(found) => pattern_line(found_line(found), &pattern[..order.len()]),
     }
 }
 
@@ -124,9 +138,7 @@ pub fn printed(file: &[u8]) -> Text
             place: 0,
         });
     }
-    let made = by_cone::cone_order(file);
-    let answer = made.answer;
-    let nets = made.nets;
+    let SplitOrder { answer, nets } = by_cone::cone_order(file);
     match answer {
         OrderAnswer::Refused(r) => refusal_text(r),
         OrderAnswer::Inputs(inputs) => search_text(file, &nets[..inputs as usize]),

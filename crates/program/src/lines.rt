@@ -1,69 +1,39 @@
-// Text, made word by word in a buffer of fixed size.
+// Lines of text, made word by word.
 ghost use Rattle.std.specs.Prelude.{cond, ◌∷◌, [], ◌++◌, ◌≡◌, ◌+◌, ◌≤◌, ◌<◌, ltb, length};
 ghost use Rattle.program.specs.Lines.{decimal, written, Added};
-ghost use Rattle.program.specs.Program.{excitation_word};
-ghost use Rattle.excitation.specs.Excitation.{excitation_of};
 
 use crate::Text;
+use itoa::Buffer;
 
-// No text yet.
-pub fn empty() -> Text
-    ensures { (written result ≡ []) × (result.used ≡ 0) }
-{
-    Text {
-        bytes: [0; 320],
-        used: 0,
-    }
-}
-
-// The byte after word k of n: a blank, or the line's end after the last.
-pub fn separator(k: usize, n: usize) -> u8
+// The character after word k of n: a blank, or the line's end after the last.
+pub fn separator(k: usize, n: usize) -> char
     requires { k < n }
-    ensures { result ≡ cond (ltb (k + 1) n) 32 10 }
+    ensures byte { result ≡ cond (ltb (k + 1) n) 32 10 }
+    ensures ascii { result < 128 }
 {
-    if k + 1 < n { b' ' } else { b'\n' }
+    if k + 1 < n { ' ' } else { '\n' }
 }
 
-impl Text {
-    // A word more, and the byte after it: a blank or the line's end.
-    pub fn word(self, word: &[u8], end: u8) -> Text
-        requires { self.used + length word.now < 320 }
-        ensures { Added self (word.now ++ (end ∷ [])) result }
-    {
-        let mut bytes = self.bytes;
-        let from = self.used;
-        let mut i: usize = 0;
-        while i < word.len() {
-            bytes[from + i] = word[i];
-            i += 1;
-        }
-        bytes[from + i] = end;
-        Text {
-            bytes,
-            used: from + i + 1,
-        }
-    }
+// A word more, and the character after it: a blank or the line's end.
+// Form kept: `write!` over an `impl Display` was tried, and the proof didn't close. Its contract says what an `Ok` wrote, and not when it
+// comes; `printed` cannot fail, and promises the whole text.
+pub fn push_word(text: &mut Text, word: &str, end: char)
+    requires room { length (written text.old) + length word.now < 320 }
+    requires ascii { end < 128 }
+    ensures { Added text.old (word.now ++ (end ∷ [])) text.new }
+{
+    text.push_str(word);
+    text.push(end);
+}
 
-    // A number more, and the byte after it.
-    pub fn number(self, number: u64, end: u8) -> Text
-        requires { self.used ≤ 299 }
-        ensures { Added self (decimal number ++ (end ∷ [])) result × (result.used ≤ self.used + 21) }
-    {
-        let mut digits = [0u8; 20];
-        let k = io::decimal(number, &mut digits);
-        self.word(&digits[..k], end)
-    }
-
-    // The word of a pattern's byte more, and the byte after it.
-    pub fn excitation(self, byte: u8, end: u8) -> Text
-        requires { self.used ≤ 317 }
-        ensures { Added self (excitation_word (excitation_of byte) ++ (end ∷ [])) result × (result.used ≤ self.used + 3) }
-    {
-        match byte {
-            1 => self.word(b"h", end),
-            2 => self.word(b"hl", end),
-            3 => self.word(b"lh", end),
-            _ => self.word(b"l", end),
-        }
-    }
+// A number more, and the character after it.
+#[tactic(auto, using(crate::proofs::Decimals::decimal_is))]
+pub fn push_number(text: &mut Text, number: u64, end: char)
+    requires room { length (written text.old) ≤ 299 }
+    requires ascii { end < 128 }
+    ensures added { Added text.old (decimal number ++ (end ∷ [])) text.new }
+    ensures short { length (written text.new) ≤ length (written text.old) + 21 }
+{
+    let mut digits = Buffer::new();
+    push_word(text, digits.format(number), end);
 }

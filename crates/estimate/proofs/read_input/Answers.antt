@@ -1,15 +1,15 @@
 -- `estimate::read_input`: what a further read leaves of the invariant.
 -- Assumes nothing.
 use Rattle.std.proofs.Common.{rules, arith, length, ◌-◌}
-use Rattle.std.proofs.lemmas.List.{length-take, length-drop}
 use Rattle.estimate.proofs.Inputs.{read_on}
 use Rattle.estimate.proofs.read_input.Goals as goal
 
 pub loop-done-preserved : goal.loop-done-preserved
 loop-done-preserved g c =
-    let read = c.in-Bytes.ensures.within in (
+    let few = c.in_ok-n.ensures.bound.0 in
+    let long = c.read.auto.buf in (
       search rules,
       search rules,
-      read_on _ _ _ c.loop-done.done (length c.loop-done.room - c.loop-done.done) c.in-Bytes.n c.loop-done.room c.read_once.new.room (omega arith)
-          (omega (arith, c.read_once.auto.room, simp (length-take, length-drop) at read)) c.loop-done.invariant.2 c.in-Bytes.ensures.bytes.0,
+      read_on _ _ _ c.loop-done.done (length c.loop-done.room - c.loop-done.done) c.in_ok-n.n c.loop-done.room c.read.new.buf (omega arith) few
+          c.loop-done.invariant.2 c.in_ok-n.ensures.bytes.0,
     )
