@@ -1,5 +1,7 @@
 -- Laws of what is printed of a search: from what Read and Search promise to the text of the definition.
 -- Assumes nothing.
+use Rattle.std.specs.Prelude.{Result, Ok, Err}
+use Rattle.block.specs.declared.verdict.Reason.TheVariants.{TooManyRecords}
 use Prim.Native.Nat.{ℕ, ◌+◌, ◌≤◌, ◌<◌}
 use mathlib.Core.List.{List, ◌++◌}
 use mathlib.Core.Path.{◌≡◌, refl, ap, sym, subst, ◌∙◌}
@@ -15,14 +17,12 @@ use Rattle.block.specs.Block.{input_count}
 use Rattle.block.specs.Record.{File}
 use Rattle.block.specs.Refusals.{read_of}
 use Rattle.block.specs.Verdict.{Check, refusal}
-use Rattle.block.specs.declared.ReadAnswer.TheVariants as read_answer
-use Rattle.block.specs.declared.Refusal.{Refusal}
+use Rattle.block.specs.declared.verdict.Refusal.{Refusal}
+use Rattle.operation.specs.Operation.{answer_after}
 use Rattle.operation.specs.declared.Found.{Found}
-use Rattle.operation.specs.declared.SearchAnswer.{SearchAnswer}
-use Rattle.operation.specs.declared.SearchAnswer.TheVariants as answer
 use Rattle.operation.proofs.Operations.{by_file}
 use Rattle.cases.specs.SplitOrder.{cone_order}
-use Rattle.search.specs.Search.{search_of, argument_checks, search_verdict, found_by, search_answer_after, Searched}
+use Rattle.search.specs.Search.{search_of, argument_checks, search_verdict, found_by, Searched}
 use Rattle.search.proofs.Agreement.{pattern_handed}
 use Rattle.arrayvec.specs.ArrayString.{ArrayString}
 use Rattle.program.specs.Lines.{line, written, Printed}
@@ -30,7 +30,7 @@ use Rattle.program.specs.Program.{most_bytes, arguments_with, program_arguments,
 
 -- A byte more than the program takes, or no more than it takes.
 
-pub too_long : (file : File) → most_bytes < length file → refusal_text (refusal 2 0) ≡ program_text file
+pub too_long : (file : File) → most_bytes < length file → refusal_text (refusal TooManyRecords 0) ≡ program_text file
 unfolding program_text
 too_long file h = sym (rw (lt-ltb most_bytes (length file) h, program_text) refl)
 
@@ -55,27 +55,27 @@ program_checks file nets inputs =
     (length given.work) (length given.store)
 
 -- What Search promises with a list that is the first maker's.
-pub searched_with : (order : List ℕ) (file : File) {a : SearchAnswer} {sheet' pattern' work' store' : List ℕ} → order ≡ cone_order file
+pub searched_with : (order : List ℕ) (file : File) {a : Result Found Refusal} {sheet' pattern' work' store' : List ℕ} → order ≡ cone_order file
     → Searched (arguments_with order file) a sheet' pattern' work' store' → Searched (program_arguments file) a sheet' pattern' work' store'
 searched_with order file {a} {sheet'} {pattern'} {work'} {store'} is s = subst (λ list. Searched (arguments_with list file) a sheet' pattern' work' store') is s
 
 module _ (file : File) where
   -- What Read refuses, Search refuses.
-  pub read_refused : {r : Refusal} → read_of file ≡ read_answer.Refused r → refusal_text r ≡ search_text file
+  pub read_refused : {r : Refusal} → read_of file ≡ Err r → refusal_text r ≡ search_text file
   unfolding search_text search_verdict arguments_with
   read_refused {r} told =
       by_file file (program_checks file)
-      (λ v. refusal_text r ≡ answer_text (search_answer_after v (found_by (program_arguments file))) (search_of (program_arguments file)).state.best.pattern)
+      (λ v. refusal_text r ≡ answer_text (answer_after v (found_by (program_arguments file))) (search_of (program_arguments file)).state.best.pattern)
       refl told refl
 
-  module _ {a : SearchAnswer} {sheet' pattern' work' store' : List ℕ} (s : Searched (program_arguments file) a sheet' pattern' work' store') where
+  module _ {a : Result Found Refusal} {sheet' pattern' work' store' : List ℕ} (s : Searched (program_arguments file) a sheet' pattern' work' store') where
     -- Search's refusal.
-    pub search_refused : {r : Refusal} → a ≡ answer.Refused r → refusal_text r ≡ search_text file
+    pub search_refused : {r : Refusal} → a ≡ Err r → refusal_text r ≡ search_text file
     unfolding search_text
     search_refused told = ap (λ b. answer_text b (search_of (program_arguments file)).state.best.pattern) (sym told ∙ s.answered)
 
     -- What Search found, and its pattern, of which the buffer has a byte for each input.
-    found_text : {found : Found} → a ≡ answer.Found found
+    found_text : {found : Found} → a ≡ Ok found
         → line (found_words found) ++ line (pattern_words (pattern_of (input_count file) pattern')) ≡ search_text file
     unfolding search_text arguments_with
     found_text {found} told =
@@ -83,7 +83,7 @@ module _ (file : File) where
         (pattern_handed (program_arguments file) found sheet' pattern' work' store' (subst (λ b. Searched (program_arguments file) b sheet' pattern' work' store') told s))
         ∙ ap (λ b. answer_text b (search_of (program_arguments file)).state.best.pattern) (sym told ∙ s.answered)
 
-    pub search_found : {found : Found} (pattern : List Excitation) (first text : ArrayString) → a ≡ answer.Found found
+    pub search_found : {found : Found} (pattern : List Excitation) (first text : ArrayString) → a ≡ Ok found
         → pattern ≡ pattern_of (input_count file) pattern' → written first ≡ line (found_words found)
         → Printed (written first ++ line (pattern_words pattern)) text → Printed (search_text file) text
     search_found {found} pattern first text told same begun printed = record {

@@ -1,15 +1,15 @@
 -- What the program prints (document 01, "Program"; request 6).
+use Rattle.std.specs.Prelude.{Result, Ok, Err}
+use Rattle.block.specs.declared.verdict.Reason.TheVariants.{TooManyRecords}
 use Rattle.std.specs.Prelude.{ℕ, ◌+◌, ◌*◌, true, false, cond, List, [], ◌∷◌, ◌++◌, map, ltb, length, replicate}
 use Rattle.laws.specs.Ascii.{ascii}
 use Rattle.excitation.specs.declared.Excitation.{Excitation}
 use Rattle.block.specs.Record.{File}
-use Rattle.block.specs.Verdict.{refusal}
-use Rattle.block.specs.declared.Refusal.{Refusal}
+use Rattle.block.specs.Verdict.{number_of, refusal}
+use Rattle.block.specs.declared.verdict.Refusal.{Refusal}
 use Rattle.operation.specs.declared.Found.{Found}
 use Rattle.operation.specs.declared.Outcome.{Outcome}
 use Rattle.operation.specs.declared.Outcome.TheVariants.{Exact, Within, Spent}
-use Rattle.operation.specs.declared.SearchAnswer.{SearchAnswer}
-use Rattle.operation.specs.declared.SearchAnswer.TheVariants as answer
 use Rattle.cases.specs.SplitOrder.{cone_order}
 use Rattle.search.specs.Search.{SearchArguments, search_of, search_answer}
 use Rattle.program.specs.Lines.{decimal, line}
@@ -57,12 +57,12 @@ pattern_words pattern = map excitation_word pattern
 
 -- A refusal prints `refused`, number, place.
 unfoldable pub refusal_text : Refusal → List ℕ
-refusal_text r = line (ascii "refused" ∷ decimal r.number ∷ decimal r.place ∷ [])
+refusal_text r = line (ascii "refused" ∷ decimal (number_of r.reason) ∷ decimal r.place ∷ [])
 
 -- What is printed of Search's answer and its pattern.
-abbrev pub answer_text : SearchAnswer → List Excitation → List ℕ
-answer_text (answer.Found found) pattern = line (found_words found) ++ line (pattern_words pattern)
-answer_text (answer.Refused r) pattern = refusal_text r
+abbrev pub answer_text : Result Found Refusal → List Excitation → List ℕ
+answer_text (Ok found) pattern = line (found_words found) ++ line (pattern_words pattern)
+answer_text (Err r) pattern = refusal_text r
 
 -- What is printed of the search of a file.
 unfoldable pub search_text : File → List ℕ
@@ -72,4 +72,4 @@ search_text file =
 
 -- What the program prints for the bytes of standard input. A 5,121st byte gives refusal 2, place 0, before any other check.
 unfoldable pub program_text : File → List ℕ
-program_text file = elim (ltb most_bytes (length file)) [ true ↦ refusal_text (refusal 2 0) | false ↦ search_text file ]
+program_text file = elim (ltb most_bytes (length file)) [ true ↦ refusal_text (refusal TooManyRecords 0) | false ↦ search_text file ]

@@ -8,10 +8,10 @@ ghost use Rattle.program.specs.Lines.{line, written, Printed};
 ghost use Rattle.program.specs.Program.{outcome_word, excitation_word, refusal_text, found_words, pattern_words, search_text, program_text};
 
 use arrayvec::ArrayString;
-use block::Refusal;
+use block::{Reason, Refusal};
 use excitation::excitation_of;
 use lines::{push_number, push_word, separator};
-use operation::{Found, OrderAnswer, Outcome, SearchAnswer, SplitOrder};
+use operation::{Found, Outcome};
 use sheet::Word;
 use split_order::by_cone;
 
@@ -44,7 +44,7 @@ fn refusal_text(r: Refusal) -> Text
 {
     let mut text = Text::new();
     push_word(&mut text, "refused", ' ');
-    push_number(&mut text, r.number, ' ');
+    push_number(&mut text, r.reason.number(), ' ');
     push_number(&mut text, r.place, '\n');
     text
 }
@@ -122,8 +122,8 @@ fn search_text(file: &[u8], order: &[u8]) -> Text
         &mut work,
         &mut store,
     ) {
-        SearchAnswer::Refused(r) => refusal_text(r),
-        SearchAnswer::Found(found) => pattern_line(found_line(found), &pattern[..order.len()]),
+        Err(r) => refusal_text(r),
+        Ok(found) => pattern_line(found_line(found), &pattern[..order.len()]),
     }
 }
 
@@ -134,13 +134,15 @@ pub fn printed(file: &[u8]) -> Text
 {
     if MOST < file.len() {
         return refusal_text(Refusal {
-            number: 2,
+            reason: Reason::TooManyRecords,
             place: 0,
         });
     }
-    let SplitOrder { answer, nets } = by_cone::cone_order(file);
-    match answer {
-        OrderAnswer::Refused(r) => refusal_text(r),
-        OrderAnswer::Inputs(inputs) => search_text(file, &nets[..inputs as usize]),
+    match by_cone::cone_order(file) {
+        Err(r) => refusal_text(r),
+        Ok(made) => {
+            let nets = made.nets;
+            search_text(file, &nets[..made.inputs])
+        }
     }
 }
