@@ -1,19 +1,10 @@
 // A line, piece by piece.
 ghost use Rattle.std.specs.Prelude.{◌≡◌, ◌≤◌, length};
 ghost use Rattle.netlist.specs.Lines.{is_blank};
-ghost use Rattle.netlist.specs.Names.{is_letter_or_digit};
 ghost use Rattle.netlist.specs.Forms.{mark_of};
 ghost use Rattle.netlist.specs.Kept.{PieceRead};
 
-use super::{Mark, Piece, words};
-
-// Whether a byte is a letter or a digit.
-fn is_letter_or_digit(byte: u8) -> bool
-    ensures { result ≡ is_letter_or_digit byte }
-{
-    ((b'0' <= byte) & (byte <= b'9'))
-        | (((b'A' <= byte) & (byte <= b'Z')) | ((b'a' <= byte) & (byte <= b'z')))
-}
+use super::{Mark, Piece, Word};
 
 // Whether a byte is a blank.
 fn is_blank(byte: u8) -> bool
@@ -40,7 +31,7 @@ pub fn read_piece(line: &[u8], from: usize) -> Piece
     requires { from ≤ length line.now }
     ensures { PieceRead line.now from result }
 {
-    let mut word = words::none();
+    let mut word = Word::default();
     let mut at = from;
     while at < line.len() {
         let byte = line[at];
@@ -52,7 +43,7 @@ pub fn read_piece(line: &[u8], from: usize) -> Piece
             };
         }
         at += 1;
-        if is_letter_or_digit(byte) {
+        if byte.is_ascii_alphanumeric() {
             word = word.with(byte);
         } else if !is_blank(byte) {
             return Piece {
