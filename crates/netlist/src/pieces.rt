@@ -10,19 +10,21 @@ use super::{Mark, Piece, Word};
 fn is_blank(byte: u8) -> bool
     ensures { result ≡ is_blank byte }
 {
-    (byte == 9) | ((byte == 13) | (byte == 32))
+    matches!(byte, b'\t' | b'\r' | b' ')
 }
 
 // The mark that a byte is.
-fn mark(byte: u8) -> Mark
-    ensures { result ≡ mark_of byte }
-{
-    match byte {
-        b'=' => Mark::Equals,
-        b'(' => Mark::Open,
-        b',' => Mark::Comma,
-        b')' => Mark::Close,
-        _ => Mark::Other,
+impl From<u8> for Mark {
+    ghost from_gives = { λ byte mark. mark ≡ mark_of byte };
+
+    fn from(byte: u8) -> Mark {
+        match byte {
+            b'=' => Mark::Equals,
+            b'(' => Mark::Open,
+            b',' => Mark::Comma,
+            b')' => Mark::Close,
+            _ => Mark::Other,
+        }
     }
 }
 
@@ -32,8 +34,7 @@ pub fn read_piece(line: &[u8], from: usize) -> Piece
     ensures { PieceRead line.now from result }
 {
     let mut word = Word::default();
-    let mut at = from;
-    while at < line.len() {
+    for at in from..line.len() {
         let byte = line[at];
         if byte == b'#' {
             return Piece {
@@ -42,20 +43,19 @@ pub fn read_piece(line: &[u8], from: usize) -> Piece
                 next: at,
             };
         }
-        at += 1;
         if byte.is_ascii_alphanumeric() {
             word = word.with(byte);
         } else if !is_blank(byte) {
             return Piece {
                 word,
-                mark: mark(byte),
-                next: at,
+                mark: Mark::from(byte),
+                next: at + 1,
             };
         }
     }
     Piece {
         word,
         mark: Mark::End,
-        next: at,
+        next: line.len(),
     }
 }

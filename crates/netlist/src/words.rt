@@ -11,7 +11,7 @@ use super::{Name, Word};
 fn followed(number: u64, letter: u8) -> u64
     ensures { result ≡ 256 * (number % 72057594037927936) + letter }
 {
-    256 * (number % 72057594037927936) + letter as u64
+    256 * (number % 72057594037927936) + u64::from(letter)
 }
 
 impl Word {
