@@ -3,7 +3,7 @@ ghost use Rattle.std.specs.Prelude.{cond, ◌++◌, ◌≡◌, ◌+◌, ◌*◌,
 ghost use Rattle.bench.specs.Records.{input_record, gate_record};
 
 // The record of an input, which allows all four excitations.
-fn input_record() -> [u8; 20]
+pub fn input_record() -> [u8; 20]
     ensures { result ≡ input_record }
 {
     [1, 0, 0, 0, 0, 0, 0, 0, 0, 0, 0, 0, 0, 0, 0, 0, 0, 0, 15, 0]
@@ -24,7 +24,7 @@ fn high(net: u16) -> u8
 }
 
 // The record of a gate, with the row of its kind.
-fn gate_record(list: &[u8], kind: usize, used: usize, nets: [u16; 4]) -> [u8; 20]
+pub fn gate_record(list: &[u8], kind: usize, used: usize, nets: [u16; 4]) -> [u8; 20]
     requires { (length list.now ≡ 64) × (2 ≤ kind) × (kind ≤ 9) × (used ≤ 4) }
     ensures { result ≡ gate_record list.now kind used (λ p. get_or nets p 0) }
 {
@@ -51,28 +51,4 @@ fn gate_record(list: &[u8], kind: usize, used: usize, nets: [u16; 4]) -> [u8; 20
         0,
         0,
     ]
-}
-
-// The record of an input, kind 1, or of a gate.
-pub fn record(list: &[u8], kind: usize, used: usize, nets: [u16; 4]) -> [u8; 20]
-    requires { (length list.now ≡ 64) × (1 ≤ kind) × (kind ≤ 9) × (used ≤ 4) }
-    ensures { result ≡ cond (eqb kind 1) input_record (gate_record list.now kind used (λ p. get_or nets p 0)) }
-{
-    if kind == 1 {
-        return input_record();
-    }
-    gate_record(list, kind, used, nets)
-}
-
-// Puts a record after those made so far.
-pub fn store(made: &mut [u8], count: usize, bytes: [u8; 20])
-    requires { (length made.old ≡ 20480) × (count < 1024) }
-    ensures { take (20 * (count + 1)) made.new ≡ take (20 * count) made.old ++ bytes }
-{
-    let from = 20 * count;
-    let mut i: usize = 0;
-    while i < 20 {
-        made[from + i] = bytes[i];
-        i += 1;
-    }
 }

@@ -1,5 +1,6 @@
 -- How the code keeps words, names and lines, and what its functions promise of them.
 use Rattle.std.specs.Prelude.{ℕ, ◌+◌, ◌-◌, ◌*◌, ◌≤◌, ◌<◌, min, Bool, true, false, cond, ◌&&◌, Option, Some, None, List, [], ◌∷◌, map, reverse, ◌≡◌, leb, eqb, length, get_or, take, drop}
+use Rattle.netlist.specs.declared.GateLine.{GateLine}
 use Rattle.netlist.specs.declared.Line.{Line}
 use Rattle.netlist.specs.declared.Line.TheVariants.{Nothing, Input, Gate}
 use Rattle.netlist.specs.declared.Name.{Name}
@@ -65,16 +66,32 @@ names_kept words = record { used = length words; names = four_kept words }
 unfoldable pub brackets_kept : List Part → Option Names
 brackets_kept parts = cond (brackets_right parts) (Some (names_kept (bracketed parts))) None
 
--- A line, if it passes check 17 by itself: by the record that it gives, with its name, and of a gate its kind and its pins.
+-- A gate is kept with its kind, its name and its pins.
+abbrev pub gate_kept : Letters → Letters → List Letters → GateLine
+gate_kept name word pins = record { kind = kind_named word; name = name_kept name; pins = names_kept pins }
+
+-- A line, if it passes check 17 by itself: by the record that it gives.
 abbrev pub right_kept : Form → Line
 right_kept empty = Nothing
 right_kept (input name) = Input (name_kept name)
 right_kept (output name) = Nothing
-right_kept (gate name word pins) = Gate (record { kind = kind_named word; name = name_kept name; pins = names_kept pins })
+right_kept (gate name word pins) = Gate (gate_kept name word pins)
 right_kept none = Nothing
 
 unfoldable pub line_kept : Form → Option Line
 line_kept form = cond (form_right form) (Some (right_kept form)) None
+
+-- The name that a line gives to a record, if any, and whether it is a gate.
+
+abbrev pub line_name : Line → Option Name
+line_name Nothing = None
+line_name (Input name) = Some name
+line_name (Gate given) = Some given.name
+
+abbrev pub line_is_gate : Line → Bool
+line_is_gate Nothing = false
+line_is_gate (Input name) = false
+line_is_gate (Gate given) = true
 
 -- A line that starts at a byte of a text: up to its end, with the next line after it.
 pub record LineAt (text : List ℕ) (at : ℕ) (span : Span) : Type 0 where

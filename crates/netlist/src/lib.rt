@@ -5,7 +5,7 @@ ghost use Rattle.std.specs.Prelude.{◌≡◌, ◌≤◌, ◌<◌, ◌==◌, len
 ghost use Rattle.std.specs.List.{position};
 ghost use Rattle.netlist.specs.Lines.{content};
 ghost use Rattle.netlist.specs.Forms.{parts_of, declared, assigned, line_form};
-ghost use Rattle.netlist.specs.Kept.{LineAt, line_kept, OfLetters};
+ghost use Rattle.netlist.specs.Kept.{LineAt, line_kept, line_name, line_is_gate, OfLetters};
 
 mod brackets;
 mod pieces;
@@ -65,6 +65,29 @@ pub enum Line {
     Nothing,
     Input(Name),
     Gate(GateLine),
+}
+
+impl Line {
+    // The name that a line gives to a record, if any.
+    pub fn name(self) -> Option<Name>
+        ensures { result ≡ line_name self }
+    {
+        match self {
+            Line::Nothing => None,
+            Line::Input(name) => Some(name),
+            Line::Gate(gate) => Some(gate.name),
+        }
+    }
+
+    // Whether a line is a gate.
+    pub fn is_gate(self) -> bool
+        ensures { result ≡ line_is_gate self }
+    {
+        match self {
+            Line::Nothing | Line::Input(_) => false,
+            Line::Gate(_) => true,
+        }
+    }
 }
 
 // Where a line of a text ends, and where the next one starts.

@@ -1,52 +1,32 @@
 -- `bench::overflow::given_in` meets its contract. The loop's invariant: what is true of the lines that are left is true of all of them, as
 -- none of those passed gives the name.
 -- Assumes nothing.
+use Prim.Native.Nat.{◌-◌}
 use mathlib.Core.Bool.{false}
-use native.Mathlib.Nat.{sub-zero}
+use mathlib.Core.Path.{◌≡◌}
 use native.Mathlib.Omega.{arith}
-use lib.ListN.{length}
-use borrow.Author.Rules.{rules}
-use Rattle.bench.proofs.Lines.{both_below}
 use Rattle.bench.proofs.GivenNames.{given_here, given_later, given_nowhere, none_left}
 use Rattle.bench.proofs.overflow.given_in.Goals as goal
 
-pub loop-at-init : goal.loop-at-init
-loop-at-init c = (c.requires, search rules, λ r h. rw sub-zero at h)
+pub returns-then-text-at : goal.returns-then-text-at
+returns-then-text-at c =
+    let l = c.loop-passed in
+    l.invariant.1 false (rw (none_left c.args.text.now l.at (c.args.lines - l.passed) c.if-text-at.true) (given_nowhere _))
 
--- The loop goes on where a line is left and fewer lines are passed than asked for.
-pub line_at-span-requires : goal.line_at-span-requires
-line_at-span-requires c = (both_below c.loop-at.at (length c.args.text.now) c.loop-at.passed c.args.lines c.loop-at-test.true).0
+pub returns-then-gives : goal.returns-then-gives
+returns-then-gives c =
+    let l = c.loop-passed in
+    l.invariant.1 _ (given_here c.line_at-span.ensures _ _ (omega arith) _ c.read_line.ensures c.gives.ensures c.if-gives.true)
 
-pub slice_bounds-read_line-count : goal.slice_bounds-read_line-count
-slice_bounds-read_line-count c = c.line_at-span.ensures.from
-
-pub slice_bounds-read_line-start : goal.slice_bounds-read_line-start
-slice_bounds-read_line-start c = c.line_at-span.ensures.from
-
-pub slice_bounds-read_line-end : goal.slice_bounds-read_line-end
-slice_bounds-read_line-end c = c.line_at-span.ensures.to
-
-pub returns-then-line-same_name : goal.returns-then-line-same_name
-returns-then-line-same_name c =
-    let l = c.loop-at in
+pub loop-passed-preserved : goal.loop-passed-preserved
+loop-passed-preserved c =
+    let l = c.loop-passed in
     let at = c.line_at-span.ensures in
-    let more = (both_below c.loop-at.at (length c.args.text.now) c.loop-at.passed c.args.lines c.loop-at-test.true).1 in
-    l.invariant.2 _ (given_here at _ _ more _ c.read_line-line.ensures c.same_name.ensures c.if-line-same_name.true)
-
-pub overflow_add-passed : goal.overflow_add-passed
-overflow_add-passed c =
-    omega (arith, (both_below c.loop-at.at (length c.args.text.now) c.loop-at.passed c.args.lines c.loop-at-test.true).1)
-
-pub loop-at-smaller : goal.loop-at-smaller
-loop-at-smaller c = let at = c.line_at-span.ensures in omega (arith, at.on, at.inside)
-
-pub loop-at-preserved : goal.loop-at-preserved
-loop-at-preserved c =
-    let l = c.loop-at in
-    let at = c.line_at-span.ensures in
-    let more = (both_below c.loop-at.at (length c.args.text.now) c.loop-at.passed c.args.lines c.loop-at-test.true).1 in
-    let later = given_later at _ _ more _ c.read_line-line.ensures c.same_name.ensures c.if-line-same_name.false in
-    (at.inside, omega arith, λ r h. l.invariant.2 r (later r h))
+    let later = given_later at _ _ (omega arith) _ c.read_line.ensures c.gives.ensures c.if-gives.false in
+    (at.inside, λ r h. l.invariant.1 r (later r h))
 
 pub returns : goal.returns
-returns c = let l = c.loop-at in l.invariant.2 false (rw (none_left _ l.at _ l.passed c.loop-at-test.false) (given_nowhere _))
+returns c =
+    let l = c.loop-passed in
+    let none : c.args.lines - l.passed ≡ 0 = omega arith in
+    l.invariant.1 false (rw none (given_nowhere _))

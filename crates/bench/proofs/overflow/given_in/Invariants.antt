@@ -8,11 +8,8 @@ use Rattle.netlist.specs.Forms.{forms_of}
 use Rattle.bench.specs.Held.{GivenIn}
 use Rattle.bench.proofs.overflow.given_in.Given as goal
 
-abbrev pub invariant-loop-at : goal.invariant-loop-at
-invariant-loop-at l =
-    (l.at ≤ length l.text) × (l.passed ≤ l.lines)
+abbrev pub invariant-loop-passed : goal.invariant-loop-passed
+invariant-loop-passed l =
+    (l.at ≤ length l.text)
     × ((r : Bool) → GivenIn (take (l.lines - l.passed) (forms_of (drop l.at l.text))) l.name r
     → GivenIn (take l.lines (forms_of (drop l.from l.text))) l.name r)
-
-abbrev pub decreases-loop-at : goal.decreases-loop-at
-decreases-loop-at l = length l.text - l.at

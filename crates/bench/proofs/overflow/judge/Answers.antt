@@ -1,12 +1,14 @@
 -- `bench::overflow::judge` meets its contract.
 -- Assumes nothing.
-use Rattle.bench.proofs.Judged.{judged_none, judged_record}
+use Rattle.bench.proofs.Judged.{judged_none, judged_input, judged_gate}
 use Rattle.bench.proofs.overflow.judge.Goals as goal
 
-pub returns-then-line-eq0 : goal.returns-then-line-eq0
-returns-then-line-eq0 c = judged_none _ _ _ _ _ _ c.if-line-eq0.true
+pub returns-in-Nothing : goal.returns-in-Nothing
+returns-in-Nothing c = rw c.in-Nothing.is (judged_none _ _ _ _)
 
-pub returns : goal.returns
-returns c =
-    judged_record _ _ _ _ _ _ c.if-line-eq0.false c.known-new.ensures
-    c.pins_known-found.ensures c.also.ensures c.also-2.ensures
+pub returns-in-Input : goal.returns-in-Input
+returns-in-Input c = rw c.in-Input.is (judged_input _ _ _ _ c.known-new.ensures c.also.ensures c.also-in-Input.ensures)
+
+pub returns-in-Gate : goal.returns-in-Gate
+returns-in-Gate c =
+    rw c.in-Gate.is (judged_gate _ _ _ _ c.known-new-in-Gate.ensures c.pins_known-found.ensures c.also-in-Gate.ensures)

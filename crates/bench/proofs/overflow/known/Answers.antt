@@ -1,10 +1,13 @@
 -- `bench::overflow::known` meets its contract.
 -- Assumes nothing.
+use mathlib.Core.Path.{sym, ◌∙◌}
+use Rattle.bench.proofs.Lookups.{placed}
 use Rattle.bench.proofs.GivenNames.{known_held, known_given}
 use Rattle.bench.proofs.overflow.known.Goals as goal
 
-pub returns-then-position-lt1024 : goal.returns-then-position-lt1024
-returns-then-position-lt1024 c = known_held _ c.position.ensures c.if-position-lt1024.true
+pub returns-then-is_some : goal.returns-then-is_some
+returns-then-is_some c =
+    rw c.if-is_some.true (known_held _ (placed c.args.names.now c.args.name _ c.position.ensures) (sym c.is_some.ensures ∙ c.if-is_some.true))
 
-pub returns : goal.returns
-returns c = known_given _ c.position.ensures c.if-position-lt1024.false _ c.given_in.ensures
+pub returns-else-is_some : goal.returns-else-is_some
+returns-else-is_some c = known_given _ (placed c.args.names.now c.args.name _ c.position.ensures) (sym c.is_some.ensures ∙ c.if-is_some.false) _ c.given_in.ensures
