@@ -48,18 +48,6 @@ module _ (number : ℕ) (names : List Letters) (gates : Bool) (form : Form) (res
   unfolding lines_from
   lines_next e = rw (add-one number) (accepted_first (line_checks number names gates form) _ e)
 
--- What a loop over lines learns of its two tests.
-
-pub both_below : (at end count most : ℕ) → (ltb at end && ltb count most) ≡ true → (at < end) × (count < most)
-both_below at end count most e = (ltb-true _ _ (and_left _ _ e), ltb-true _ _ (and_right (ltb at end) _ e))
-
-pub first_not_below : (at end count most : ℕ) → (ltb at end && ltb count most) ≡ false → count < most → end ≤ at
-first_not_below at end count most e h = ltb-false _ _ (first_fails (ltb at end) (lt-ltb _ _ h) e)
-  where
-    first_fails : (a : Bool) {b : Bool} → b ≡ true → (a && b) ≡ false → a ≡ false
-    first_fails true t f = sym t ∙ f
-    first_fails false t f = refl
-
 -- No line is taken yet.
 pub none_taken : (text list : List ℕ) (table : Table) → table.count ≡ 0 → table.gates ≡ false → LinesTaken text list table 0 1
 unfolding are_names

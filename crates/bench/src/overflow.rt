@@ -115,8 +115,8 @@ pub fn judge_later(text: &[u8], from: usize, number: usize, gates: bool, names: 
         }
         at = span.next;
         passed += 1;
-        after = after | line.is_gate();
-        more = more | line.name().is_some();
+        after |= line.is_gate();
+        more |= line.name().is_some();
     }
     Later {
         verdict: Verdict::Accepted,

@@ -70,7 +70,7 @@ fn begin(text: &[u8], list: &[u8], table: &mut Table) -> Progress
 {
     let mut at: usize = 0;
     let mut number: usize = 1;
-    while (at < text.len()) & (table.count < 1024) {
+    while at < text.len() && table.count < 1024 {
         let span = netlist::line_at(text, at);
         let end = span.end;
         let verdict = table.take_line(&text[at..end], number, list);
