@@ -13,6 +13,7 @@ use Rattle.netlist.specs.declared.Line.{Line}
 use Rattle.netlist.specs.declared.Line.TheVariants as line
 use Rattle.netlist.specs.declared.Name.{Name}
 use Rattle.netlist.specs.declared.Names.{Names}
+use Rattle.bench.specs.declared.Earlier.{Earlier}
 use Rattle.bench.specs.declared.Later.{Later}
 use Rattle.bench.specs.declared.Progress.{Progress}
 use Rattle.bench.specs.declared.Table.{Table}
@@ -107,6 +108,9 @@ abbrev pub GivenIn : List Form → Name → Bool → Type 0
 GivenIn forms name r = (word : Letters) → is_name word ≡ true → name ≡ name_kept word → all_right forms ≡ true → r ≡ known word (names_of forms)
 
 -- Lines after the 1,024th record are judged by the names held and those that `forms`, the lines from there on, give.
+
+abbrev pub forms_before : Earlier → List Form
+forms_before earlier = take earlier.lines (forms_of (drop earlier.from earlier.text.now))
 
 abbrev pub KnownIn : List Form → List Name → Name → Bool → Type 0
 KnownIn forms kept name r =

@@ -42,6 +42,16 @@ pub struct Progress {
     pub number: usize,
 }
 
+// What a line after the 1,024th record is judged by: the names held, and the first `lines` lines of the text from byte `from` on.
+#[derive(Clone, Copy)]
+pub struct Earlier<'a> {
+    pub names: &'a [Name],
+    pub text: &'a [u8],
+    pub from: usize,
+    pub lines: usize,
+    ghost inside: { from ≤ length text.now },
+}
+
 // What later lines come to: their verdict, and whether one of them gives a record.
 #[derive(Clone, Copy)]
 pub struct Later {

@@ -1,13 +1,13 @@
 // The lines after the 1,024th record. No table has their names: they are looked up in the text itself. A text in which one of them gives
 // a record is refused in any case.
-ghost use Rattle.std.specs.Prelude.{◌≡◌, false, ◌+◌, ◌≤◌, length, take, drop};
+ghost use Rattle.std.specs.Prelude.{◌≡◌, false, ◌+◌, ◌≤◌, length, drop};
 ghost use Rattle.block.specs.Verdict.{refusal};
 ghost use Rattle.block.specs.declared.Verdict.TheVariants.{Refused};
 ghost use Rattle.netlist.specs.Forms.{forms_of};
-ghost use Rattle.bench.specs.Held.{gives, FewPins, GivenIn, KnownIn, AllKnownIn, JudgedIn, JudgedLater};
+ghost use Rattle.bench.specs.Held.{gives, forms_before, FewPins, GivenIn, KnownIn, AllKnownIn, JudgedIn, JudgedLater};
 
 use super::lookup;
-use crate::Later;
+use crate::{Earlier, Later};
 use block::{Refusal, Verdict};
 use netlist::{Line, Name, Names};
 
@@ -22,71 +22,63 @@ fn gives(line: Option<Line>, name: Name) -> bool
     }
 }
 
-// Whether one of the first `lines` lines from byte `from` on gives a name.
-fn given_in(text: &[u8], from: usize, lines: usize, name: Name) -> bool
-    requires { from ≤ length text.now }
-    ensures { GivenIn (take lines (forms_of (drop from text.now))) name result }
-{
-    let mut at = from;
-    for passed in 0..lines {
-        if text.len() <= at {
-            return false;
+impl Earlier<'_> {
+    // Whether one of the lines gives a name.
+    fn gives(&self, name: Name) -> bool
+        ensures { GivenIn (forms_before self.now) name result }
+    {
+        let mut at = self.from;
+        for passed in 0..self.lines {
+            if self.text.len() <= at {
+                return false;
+            }
+            let span = netlist::line_at(self.text, at);
+            let end = span.end;
+            if gives(netlist::read_line(&self.text[at..end]), name) {
+                return true;
+            }
+            at = span.next;
         }
-        let span = netlist::line_at(text, at);
-        let end = span.end;
-        if gives(netlist::read_line(&text[at..end]), name) {
-            return true;
-        }
-        at = span.next;
+        false
     }
-    false
-}
 
-// Whether a name is known: held, or given by one of the first `lines` lines from byte `from` on.
-fn known(text: &[u8], from: usize, lines: usize, names: &[Name], name: Name) -> bool
-    requires { from ≤ length text.now }
-    ensures { KnownIn (take lines (forms_of (drop from text.now))) names.now name result }
-{
-    lookup::position(names, name).is_some() || given_in(text, from, lines, name)
-}
-
-// Whether all pins of a gate are known.
-fn pins_known(text: &[u8], from: usize, lines: usize, names: &[Name], pins: Names) -> bool
-    requires { (from ≤ length text.now) × (pins.used ≤ 4) }
-    ensures { AllKnownIn (take lines (forms_of (drop from text.now))) names.now pins result }
-{
-    for p in 0..pins.used {
-        if !known(text, from, lines, names, pins.names[p]) {
-            return false;
-        }
+    // Whether a name is known: held, or given by one of the lines.
+    fn knows(&self, name: Name) -> bool
+        ensures { KnownIn (forms_before self.now) self.now.names.now name result }
+    {
+        lookup::position(self.names, name).is_some() || self.gives(name)
     }
-    true
-}
 
-// Judges a line that has passed check 17 by itself, given the lines before it.
-fn judge(
-    text: &[u8],
-    from: usize,
-    lines: usize,
-    names: &[Name],
-    line: Line,
-    number: usize,
-    gates: bool,
-) -> Verdict
-    requires { (from ≤ length text.now) × FewPins line }
-    ensures { JudgedIn (take lines (forms_of (drop from text.now))) names.now line number gates result }
-{
-    let place = number as u64;
-    match line {
-        Line::Nothing => Verdict::Accepted,
-        Line::Input(name) => {
-            let new = !known(text, from, lines, names, name);
-            Verdict::Accepted.also(17, place, !gates).also(18, place, new)
+    // Whether all pins of a gate are known.
+    fn knows_all(&self, pins: Names) -> bool
+        requires { pins.used ≤ 4 }
+        ensures { AllKnownIn (forms_before self.now) self.now.names.now pins result }
+    {
+        for p in 0..pins.used {
+            if !self.knows(pins.names[p]) {
+                return false;
+            }
         }
-        Line::Gate(gate) => {
-            let new = !known(text, from, lines, names, gate.name);
-            let found = pins_known(text, from, lines, names, gate.pins);
-            Verdict::Accepted.also(18, place, new & found)
+        true
+    }
+
+    // Judges a line that has passed check 17 by itself.
+    fn judge(&self, line: Line, number: usize, gates: bool) -> Verdict
+        requires { FewPins line }
+        ensures { JudgedIn (forms_before self.now) self.now.names.now line number gates result }
+    {
+        let place = number as u64;
+        match line {
+            Line::Nothing => Verdict::Accepted,
+            Line::Input(name) => {
+                let new = !self.knows(name);
+                Verdict::Accepted.also(17, place, !gates).also(18, place, new)
+            }
+            Line::Gate(gate) => {
+                let new = !self.knows(gate.name);
+                let found = self.knows_all(gate.pins);
+                Verdict::Accepted.also(18, place, new & found)
+            }
         }
     }
 }
@@ -106,7 +98,13 @@ pub fn judge_later(text: &[u8], from: usize, number: usize, gates: bool, names: 
         let Some(line) = netlist::read_line(&text[at..end]) else {
             return refused_at(number + passed);
         };
-        let verdict = judge(text, from, passed, names, line, number + passed, after);
+        let earlier = Earlier {
+            names,
+            text,
+            from,
+            lines: passed,
+        };
+        let verdict = earlier.judge(line, number + passed, after);
         if let Verdict::Refused(r) = verdict {
             return Later {
                 verdict: Verdict::Refused(r),

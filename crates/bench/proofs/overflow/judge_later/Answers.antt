@@ -16,7 +16,7 @@ returns-in_default c =
 pub judge-verdict-requires : goal.judge-verdict-requires
 judge-verdict-requires c =
     let right = line_right _ c.read_line.ensures c.in-Some.is in
-    (c.requires.0, subst FewPins (sym right.1) (pins_few_lem _ right.0))
+    subst FewPins (sym right.1) (pins_few_lem _ right.0)
 
 pub returns-in-Refused : goal.returns-in-Refused
 returns-in-Refused c =

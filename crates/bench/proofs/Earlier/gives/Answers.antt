@@ -1,4 +1,4 @@
--- `bench::overflow::given_in` meets its contract. The loop's invariant: what is true of the lines that are left is true of all of them, as
+-- `bench::Earlier::gives` meets its contract. The loop's invariant: what is true of the lines that are left is true of all of them, as
 -- none of those passed gives the name.
 -- Assumes nothing.
 use Prim.Native.Nat.{◌-◌}
@@ -6,12 +6,12 @@ use mathlib.Core.Bool.{false}
 use mathlib.Core.Path.{◌≡◌}
 use native.Mathlib.Omega.{arith}
 use Rattle.bench.proofs.GivenNames.{given_here, given_later, given_nowhere, none_left}
-use Rattle.bench.proofs.overflow.given_in.Goals as goal
+use Rattle.bench.proofs.Earlier.gives.Goals as goal
 
-pub returns-then-text-at : goal.returns-then-text-at
-returns-then-text-at c =
+pub returns-then-self-at : goal.returns-then-self-at
+returns-then-self-at c =
     let l = c.loop-passed in
-    l.invariant.1 false (rw (none_left c.args.text.now l.at (c.args.lines - l.passed) c.if-text-at.true) (given_nowhere _))
+    l.invariant.1 false (rw (none_left c.args.self.now.text.now l.at (c.args.self.now.lines - l.passed) c.if-self-at.true) (given_nowhere _))
 
 pub returns-then-gives : goal.returns-then-gives
 returns-then-gives c =
@@ -28,5 +28,5 @@ loop-passed-preserved c =
 pub returns : goal.returns
 returns c =
     let l = c.loop-passed in
-    let none : c.args.lines - l.passed ≡ 0 = omega arith in
+    let none : c.args.self.now.lines - l.passed ≡ 0 = omega arith in
     l.invariant.1 false (rw none (given_nowhere _))

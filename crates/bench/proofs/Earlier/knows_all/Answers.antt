@@ -1,20 +1,20 @@
--- `bench::overflow::pins_known` meets its contract. The loop's invariant: the first p pins are known.
+-- `bench::Earlier::knows_all` meets its contract. The loop's invariant: the first p pins are known.
 -- Assumes nothing.
 use mathlib.Core.Path.{◌≡◌}
 use native.Mathlib.Omega.{arith}
 use Rattle.netlist.specs.Kept.{no_name}
 use Rattle.bench.proofs.KnownPins.{known_below_next, pin_unknown, all_pins_known}
-use Rattle.bench.proofs.overflow.pins_known.Goals as goal
+use Rattle.bench.proofs.Earlier.knows_all.Goals as goal
 
-pub returns-then-not-known : goal.returns-then-not-known
-returns-then-not-known c =
+pub returns-then-not-knows : goal.returns-then-not-knows
+returns-then-not-knows c =
     let l = c.loop-p in
-    pin_unknown _ _ _ l.p no_name (omega arith) c.requires.1 c.known.ensures l.invariant c.if-not-known.true
+    pin_unknown _ _ _ l.p no_name (omega arith) c.requires c.knows.ensures l.invariant c.if-not-knows.true
 
 pub loop-p-preserved : goal.loop-p-preserved
 loop-p-preserved c =
     let l = c.loop-p in
-    known_below_next _ _ _ l.p no_name (omega arith) c.requires.1 c.known.ensures l.invariant c.if-not-known.false
+    known_below_next _ _ _ l.p no_name (omega arith) c.requires c.knows.ensures l.invariant c.if-not-knows.false
 
 pub returns : goal.returns
 returns c names words held right proper same =
