@@ -26,9 +26,6 @@ stops mark (inr (inr (inr e))) word rest = rw e refl
 pub loop-passed-init : goal.loop-passed-init
 loop-passed-init c = names_none _ _ _ c.default-names.ensures c.requires
 
-pub read_piece-piece-requires : goal.read_piece-piece-requires
-read_piece-piece-requires c = c.loop-passed.invariant.inside
-
 pub returns-then-not-is_name : goal.returns-then-not-is_name
 returns-then-not-is_name c =
     let read = c.read_piece-piece in
@@ -40,9 +37,6 @@ loop-passed-preserved c =
     let read = c.read_piece-piece in
     names_more _ _ _ _ _ c.loop-passed.invariant read.result read.ensures (omega arith)
     (sym (of_piece _ read.ensures c.is_name.ensures) ∙ c.if-not-is_name.false) c.in-Comma.is
-
-pub ended-requires : goal.ended-requires
-ended-requires c = c.read_piece-piece.ensures.inside
 
 pub returns-in-Close : goal.returns-in-Close
 returns-in-Close c =
