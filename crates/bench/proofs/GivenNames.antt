@@ -1,21 +1,18 @@
 -- Laws of the names that lines give: whether a name is one of them, or one of those held, as code tests it.
 -- Assumes nothing.
 use Prim.Native.Nat.{ℕ, suc, ◌+◌, ◌-◌, ◌≤◌, ◌<◌}
-use mathlib.Core.Bool.{Bool, true, false, not, false≢true, ◌&&◌, ◌||◌, or-false}
+use mathlib.Core.Bool.{Bool, true, false, false≢true, ◌||◌, or-false}
 use mathlib.Core.List.{List, [], ◌∷◌, ◌++◌}
 use mathlib.Core.Path.{◌≡◌, refl, sym, ap, ◌∙◌}
 use native.Mathlib.Omega.{arith}
-use lib.Dec.{eqb, ltb}
 use lib.ListN.{length, take, drop}
 use lib.Seq.{take-nil}
-use borrow.Author.Tests.{ne_eqb, lt-ltb, le-ltb, ltb-true, ltb-false}
-use borrow.Table.Steps.{cases}
-use Rattle.std.proofs.Common.{Option, Some, None}
+use Rattle.std.proofs.Common.{Option}
 use Rattle.std.specs.Prelude.{is_some}
 use Rattle.laws.proofs.Tests.{and_left, and_right}
 use Rattle.netlist.specs.Names.{Letters, is_name, same, known}
-use Rattle.netlist.specs.Forms.{Form, empty, input, output, gate, none, kind_named, line_form, forms_of, form_right, given_by, names_of}
-use Rattle.netlist.specs.Kept.{LineAt, name_kept, same_name, right_kept, line_kept}
+use Rattle.netlist.specs.Forms.{Form, empty, input, output, gate, none, line_form, forms_of, form_right, given_by, names_of}
+use Rattle.netlist.specs.Kept.{LineAt, name_kept, same_name, line_kept}
 use Rattle.netlist.specs.declared.Line.{Line}
 use Rattle.netlist.specs.declared.Name.{Name}
 use Rattle.netlist.specs.declared.Span.{Span}

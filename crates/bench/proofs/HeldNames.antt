@@ -1,7 +1,7 @@
 -- Laws of the names held: one name more.
 -- Assumes nothing.
 use mathlib.Core.Bool.{true}
-use mathlib.Core.List.{List, [], ◌∷◌, ◌++◌, map}
+use mathlib.Core.List.{List, [], ◌∷◌, ◌++◌}
 use mathlib.Core.Path.{◌≡◌, refl, sym, ap, ◌∙◌}
 use Rattle.laws.proofs.Tests.{and_both}
 use Rattle.std.proofs.lemmas.List.{map-append}

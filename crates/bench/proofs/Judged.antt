@@ -13,11 +13,10 @@ use Rattle.netlist.specs.Names.{Letters, is_name, known, all_known}
 use Rattle.netlist.specs.Forms.{Form, empty, input, output, gate, none, form_right, names_of}
 use Rattle.netlist.specs.Kept.{right_kept}
 use Rattle.netlist.specs.declared.GateLine.{GateLine}
-use Rattle.netlist.specs.declared.Line.{Line}
 use Rattle.netlist.specs.declared.Line.TheVariants.{Nothing, Input, Gate}
 use Rattle.netlist.specs.declared.Name.{Name}
 use Rattle.netlist.proofs.RightGates.{gate_named, gate_pins}
-use Rattle.bench.specs.Checks.{in_place, names_right, line_checks}
+use Rattle.bench.specs.Checks.{names_right, line_checks}
 use Rattle.bench.specs.Held.{KnownIn, AllKnownIn, JudgedIn}
 use Rattle.bench.proofs.KeptLines.{input_told, gate_told}
 

@@ -1,6 +1,6 @@
 -- Laws of lines as they are kept: which of them are right, and what code reads off a right one.
 -- Assumes nothing.
-use mathlib.Core.Bool.{Bool, true, false, false≢true}
+use mathlib.Core.Bool.{true, false, false≢true}
 use mathlib.Core.List.{List}
 use mathlib.Core.Path.{◌≡◌, refl, sym, ◌∙◌}
 use native.Mathlib.Omega.{arith}
@@ -14,7 +14,7 @@ use Rattle.netlist.specs.Forms.{Form, empty, input, output, gate, none, form_rig
 use Rattle.netlist.specs.Kept.{name_kept, gate_kept, right_kept, line_kept, line_name, line_is_gate}
 use Rattle.netlist.specs.declared.GateLine.{GateLine}
 use Rattle.netlist.specs.declared.Line.{Line}
-use Rattle.netlist.specs.declared.Line.TheVariants.{Nothing, Input, Gate}
+use Rattle.netlist.specs.declared.Line.TheVariants.{Input, Gate}
 use Rattle.netlist.specs.declared.Name.{Name}
 use Rattle.netlist.proofs.RightGates.{gate_few}
 use Rattle.bench.specs.Held.{FewPins}

@@ -1,15 +1,12 @@
 -- Laws of lines that are judged and taken one after the other.
 -- Assumes nothing.
-use Prim.Native.Nat.{ℕ, ◌+◌, ◌-◌, ◌*◌, ◌≤◌, ◌<◌}
-use mathlib.Core.Bool.{Bool, true, false, ◌&&◌, ◌||◌}
+use Prim.Native.Nat.{ℕ, ◌+◌, ◌-◌, ◌≤◌}
+use mathlib.Core.Bool.{Bool, false, ◌||◌}
 use mathlib.Core.List.{List, [], ◌∷◌, ◌++◌, map, append_assoc}
 use mathlib.Core.Path.{◌≡◌, refl, sym, ap, ◌∙◌}
 use native.Mathlib.Numerals.{add-one}
 use native.Mathlib.Omega.{arith}
-use lib.Dec.{ltb}
 use lib.ListN.{length, take, drop, drop_of_length-le}
-use borrow.Author.Tests.{ltb-true, ltb-false, lt-ltb}
-use Rattle.laws.proofs.Tests.{and_left, and_right}
 use Rattle.block.specs.Verdict.{verdict}
 use Rattle.block.specs.declared.Refusal.{Refusal}
 use Rattle.block.specs.declared.Verdict.{Verdict}
@@ -17,7 +14,7 @@ use Rattle.block.specs.declared.Verdict.TheVariants.{Accepted, Refused}
 use Rattle.block.proofs.Verdicts.{refused_first, accepted_first}
 use Rattle.netlist.specs.Lines.{lines_of}
 use Rattle.netlist.specs.Names.{Letters, are_names}
-use Rattle.netlist.specs.Forms.{Form, empty, input, output, gate, none, line_form, forms_of, given_by, is_gate}
+use Rattle.netlist.specs.Forms.{Form, line_form, forms_of, given_by, is_gate}
 use Rattle.netlist.specs.Kept.{LineAt}
 use Rattle.netlist.specs.declared.Span.{Span}
 use Rattle.bench.specs.declared.Table.{Table}

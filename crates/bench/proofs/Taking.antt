@@ -1,28 +1,27 @@
 -- Laws of lines that are taken one by one: the verdict, the name and the record of a line, from what was looked up, and lines that add
 -- nothing.
 -- Assumes nothing.
-use Prim.Native.Nat.{ℕ, ◌≤◌}
-use mathlib.Core.Bool.{Bool, true, false, cond, not, ◌&&◌, ◌||◌, and-false, or-true, or-false, false≢true}
+use Prim.Native.Nat.{ℕ}
+use mathlib.Core.Bool.{Bool, true, false, cond, not, ◌||◌, and-false, or-true, or-false, false≢true}
 use mathlib.Core.List.{List, [], ◌∷◌, ◌++◌, append-nil}
 use mathlib.Core.Path.{◌≡◌, refl, sym, ap, ◌∙◌}
 use Rattle.std.proofs.Common.{Option, Some, None}
 use Rattle.std.specs.Prelude.{is_some}
 use lib.ListN.{get_or}
-use Rattle.block.specs.Verdict.{check, verdict, also, refusal}
+use Rattle.block.specs.Verdict.{check, also, refusal}
 use Rattle.block.specs.declared.Verdict.{Verdict}
 use Rattle.block.specs.declared.Verdict.TheVariants.{Accepted, Refused}
 use Rattle.block.proofs.Verdicts.{apart}
-use Rattle.netlist.specs.Names.{Letters, is_name, known, all_known}
-use Rattle.netlist.specs.Forms.{Form, empty, input, output, gate, none, kind_named, form_right, given_by, is_gate}
+use Rattle.netlist.specs.Names.{Letters, known, all_known}
+use Rattle.netlist.specs.Forms.{Form, empty, input, output, gate, none, form_right, given_by, is_gate}
 use Rattle.netlist.specs.Kept.{gate_kept, right_kept}
 use Rattle.netlist.specs.declared.GateLine.{GateLine}
 use Rattle.netlist.specs.declared.Line.TheVariants.{Nothing}
 use Rattle.netlist.specs.declared.Name.{Name}
 use Rattle.netlist.proofs.RightGates.{gate_named, gate_pins}
 use Rattle.bench.specs.declared.Table.{Table}
-use Rattle.bench.specs.Checks.{line_checks}
 use Rattle.bench.specs.Records.{input_record, gate_record, record_of}
-use Rattle.bench.specs.Held.{Held, held_names, made_records, PinsPlaced, four_nets, Added, LineTaken, InputTaken, GateTaken}
+use Rattle.bench.specs.Held.{Held, held_names, made_records, PinsPlaced, four_nets, LineTaken, InputTaken, GateTaken}
 use Rattle.bench.proofs.Lookups.{Placed, known_by_place}
 use Rattle.bench.proofs.Pins.{told_some, told_none}
 use Rattle.bench.proofs.HeldNames.{held_next}

@@ -72,7 +72,9 @@ impl Earlier<'_> {
             Line::Nothing => Verdict::Accepted,
             Line::Input(name) => {
                 let new = !self.knows(name);
-                Verdict::Accepted.also(17, place, !gates).also(18, place, new)
+                Verdict::Accepted
+                    .also(17, place, !gates)
+                    .also(18, place, new)
             }
             Line::Gate(gate) => {
                 let new = !self.knows(gate.name);

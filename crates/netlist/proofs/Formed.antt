@@ -1,18 +1,18 @@
 -- Laws of lines by their form: what makes a line of each form wrong, and how a right one is kept.
 -- Assumes nothing.
 use Prim.Native.Nat.{ℕ, ◌<◌}
-use mathlib.Core.Bool.{Bool, true, false, not, ◌&&◌, ◌||◌, cond, and-true, false≢true}
+use mathlib.Core.Bool.{Bool, true, false, ◌&&◌, cond, and-true, false≢true}
 use mathlib.Core.List.{List, [], ◌∷◌}
 use mathlib.Core.Path.{◌≡◌, refl, ap, sym, ◌∙◌}
 use native.Mathlib.Omega.{arith}
-use lib.Dec.{leb, eqb}
+use lib.Dec.{eqb}
 use lib.ListN.{length, get_or}
-use borrow.Author.Tests.{leb-false, eqb-true, eqb-false, not-true, not-false}
+use borrow.Author.Tests.{leb-false, eqb-true}
 use borrow.Table.Steps.{cases}
-use Rattle.std.proofs.Common.{Option, Some, None}
+use Rattle.std.proofs.Common.{Some, None}
 use Rattle.std.specs.Bool.{then_some}
 use Rattle.laws.specs.Ascii.{ascii}
-use Rattle.laws.proofs.Tests.{and_left, and_right, and_first_fails, and_second_fails, or_fails}
+use Rattle.laws.proofs.Tests.{and_left, and_right, and_first_fails, and_second_fails}
 use Rattle.block.specs.Refusals.{within}
 use Rattle.netlist.specs.declared.Line.TheVariants.{Nothing, Input, Gate}
 use Rattle.netlist.specs.declared.Mark.TheVariants.{Open}
@@ -21,7 +21,7 @@ use Rattle.netlist.specs.Names.{Letters, is_letter_or_digit, lettered, is_name, 
 use Rattle.netlist.specs.Forms.{Part, part, closed, bracketed, Form, gate, none, declaring, declared, assigned, form_right}
 use Rattle.netlist.specs.Forms.{kind_named, pins_allowed}
 use Rattle.netlist.specs.Kept.{number_of, short_number, name_kept, kept_at, four_kept, no_name, brackets_right, brackets_kept}
-use Rattle.netlist.specs.Kept.{kind_kept, names_kept, right_kept, line_kept}
+use Rattle.netlist.specs.Kept.{kind_kept, names_kept, line_kept}
 use Rattle.netlist.proofs.Packing.{short_same}
 use Rattle.netlist.proofs.RightGates.{kind_low, pins_few}
 

@@ -1,8 +1,6 @@
 -- `bench::walk::begin` meets its contract. The loop's invariant: the lines before byte `at` are taken.
 -- Assumes nothing.
-use mathlib.Core.Path.{sym, ◌∙◌}
-use native.Mathlib.Nat.{le_antisymm}
-use lib.ListN.{length}
+use mathlib.Core.Path.{◌∙◌}
 use Rattle.block.proofs.Verdicts.{apart}
 use Rattle.bench.proofs.Lines.{none_taken, taken_refused, taken_next}
 use Rattle.bench.proofs.walk.begin.Goals as goal
