@@ -33,8 +33,7 @@ impl Earlier<'_> {
                 return false;
             }
             let span = netlist::line_at(self.text, at);
-            let end = span.end;
-            if gives(netlist::read_line(&self.text[at..end]), name) {
+            if gives(netlist::read_line(&self.text[at..span.end]), name) {
                 return true;
             }
             at = span.next;
@@ -94,10 +93,10 @@ pub fn judge_later(text: &[u8], from: usize, number: usize, gates: bool, names: 
     let mut passed: usize = 0;
     let mut after = gates;
     let mut more = false;
+    // Form kept: no range fits, since only where a line ends tells where the next one starts; an iterator of lines would be a type more.
     while at < text.len() {
         let span = netlist::line_at(text, at);
-        let end = span.end;
-        let Some(line) = netlist::read_line(&text[at..end]) else {
+        let Some(line) = netlist::read_line(&text[at..span.end]) else {
             return refused_at(number + passed);
         };
         let earlier = Earlier {

@@ -70,10 +70,10 @@ fn begin(text: &[u8], list: &[u8], table: &mut Table) -> Progress
 {
     let mut at: usize = 0;
     let mut number: usize = 1;
+    // Form kept: no range fits, since only where a line ends tells where the next one starts, and the caller goes on from where this stops.
     while at < text.len() && table.count < 1024 {
         let span = netlist::line_at(text, at);
-        let end = span.end;
-        let verdict = table.take_line(&text[at..end], number, list);
+        let verdict = table.take_line(&text[at..span.end], number, list);
         if let Verdict::Refused(r) = verdict {
             return Progress {
                 verdict: Verdict::Refused(r),
@@ -97,8 +97,7 @@ pub fn take_text(text: &[u8], list: &[u8], table: &mut Table) -> Verdict
     ensures { TextTaken text.now list.now table.new result }
 {
     let progress = begin(text, list, table);
-    let begun = progress.verdict;
-    if let Verdict::Refused(r) = begun {
+    if let Verdict::Refused(r) = progress.verdict {
         return Verdict::Refused(r);
     }
     if progress.at == text.len() {
@@ -111,8 +110,7 @@ pub fn take_text(text: &[u8], list: &[u8], table: &mut Table) -> Verdict
         table.gates,
         table.held(),
     );
-    let judged = rest.verdict;
-    match judged {
+    match rest.verdict {
         Verdict::Refused(r) => Verdict::Refused(r),
         Verdict::Accepted => {
             if rest.more {

@@ -150,10 +150,9 @@ fn assignment(line: &[u8], name: Word, at: usize) -> Option<Line>
     let pins = brackets::read_names(line, piece.next)?;
     let kind = piece.word.kind()?;
     let right = name.is_name() & words::pin_count_right(kind, pins.used);
-    let given = name.name;
     right.then_some(Line::Gate(GateLine {
         kind,
-        name: given,
+        name: name.name,
         pins,
     }))
 }

@@ -16,11 +16,11 @@ returns-then-rest c =
     later_gives begun.0 (all_full (omega arith) begun.1 c.if-progress-text.false) c.begin-progress.new.table.sized
     (rw c.held.ensures at c.judge_later-rest.ensures) c.in-Accepted.is c.if-rest.true
 
-pub returns-in-Refused-judged : goal.returns-in-Refused-judged
-returns-in-Refused-judged c =
+pub returns-in-Refused-verdict : goal.returns-in-Refused-verdict
+returns-in-Refused-verdict c =
     let begun = c.begin-progress.ensures.accepted c.in_default.is in
     later_refused begun.0 (all_full (omega arith) begun.1 c.if-progress-text.false) c.begin-progress.new.table.sized
-    (rw c.held.ensures at c.judge_later-rest.ensures) _ c.in-Refused-judged.is
+    (rw c.held.ensures at c.judge_later-rest.ensures) _ c.in-Refused-verdict.is
 
 pub returns-else-rest : goal.returns-else-rest
 returns-else-rest c =
