@@ -1,29 +1,27 @@
 -- Laws of the names that lines give: whether a name is one of them, or one of those held, as code tests it.
 -- Assumes nothing.
 use Prim.Native.Nat.{ℕ, suc, ◌+◌, ◌-◌, ◌≤◌, ◌<◌}
-use mathlib.Core.Bool.{Bool, true, false, not, false≢true, ◌&&◌, ◌||◌, or-false}
+use mathlib.Core.Bool.{Bool, true, false, false≢true, ◌||◌, or-false}
 use mathlib.Core.List.{List, [], ◌∷◌, ◌++◌}
 use mathlib.Core.Path.{◌≡◌, refl, sym, ap, ◌∙◌}
 use native.Mathlib.Omega.{arith}
-use lib.Dec.{eqb, ltb}
 use lib.ListN.{length, take, drop}
 use lib.Seq.{take-nil}
-use borrow.Author.Tests.{ne_eqb, lt-ltb, le-ltb, ltb-true, ltb-false}
-use borrow.Table.Steps.{cases}
+use Rattle.std.proofs.Common.{Option}
+use Rattle.std.specs.Prelude.{is_some}
 use Rattle.laws.proofs.Tests.{and_left, and_right}
 use Rattle.netlist.specs.Names.{Letters, is_name, same, known}
-use Rattle.netlist.specs.Forms.{Form, empty, input, output, gate, none, kind_named, line_form, forms_of, form_right, given_by, names_of}
-use Rattle.netlist.specs.Kept.{LineAt, name_kept, same_name, right_kept, line_kept}
+use Rattle.netlist.specs.Forms.{Form, empty, input, output, gate, none, line_form, forms_of, form_right, given_by, names_of}
+use Rattle.netlist.specs.Kept.{LineAt, name_kept, same_name, line_kept}
 use Rattle.netlist.specs.declared.Line.{Line}
 use Rattle.netlist.specs.declared.Name.{Name}
 use Rattle.netlist.specs.declared.Span.{Span}
 use Rattle.netlist.proofs.Packing.{kept_same}
 use Rattle.netlist.proofs.KnownWords.{same_turned, known_append}
-use Rattle.netlist.proofs.RightGates.{gate_named, gate_kind}
-use Rattle.bench.specs.Held.{Held, Placed, all_right, GivenIn, KnownIn}
-use Rattle.bench.proofs.Lines.{forms_at, no_forms, first_not_below}
-use Rattle.bench.proofs.Lookups.{known_by_place}
-use Rattle.bench.proofs.KeptLines.{line_kept_lem}
+use Rattle.netlist.proofs.RightGates.{gate_named}
+use Rattle.bench.specs.Held.{Held, all_right, gives, GivenIn, KnownIn}
+use Rattle.bench.proofs.Lines.{forms_at, no_forms}
+use Rattle.bench.proofs.Lookups.{Placed, known_by_place}
 
 -- Whether a right line gives a name, as code tests it on the line as it is kept.
 module _ (word : Letters) (proper : is_name word ≡ true) where
@@ -31,25 +29,21 @@ module _ (word : Letters) (proper : is_name word ≡ true) where
   same_kept name named =
       kept_same name word named proper ∙ same_turned name word ∙ sym (or-false (same word name))
 
-  given_kept : (form : Form) → form_right form ≡ true
-      → (not (eqb (right_kept form).kind 0) && same_name (right_kept form).name (name_kept word)) ≡ known word (given_by form)
-  unfolding form_right given_by known
+  given_kept : (form : Form) → form_right form ≡ true → gives (line_kept form) (name_kept word) ≡ known word (given_by form)
+  unfolding line_kept form_right given_by known
   given_kept empty right = refl
-  given_kept (input name) right = same_kept name right
-  given_kept (output name) right = refl
-  given_kept (gate name kind pins) right =
-      let high = gate_kind name kind pins right in
-      rw (ne_eqb (kind_named kind) 0 (λ e. omega arith)) (same_kept name (gate_named name kind pins right))
+  given_kept (input name) right = rw right (same_kept name right)
+  given_kept (output name) right = rw right refl
+  given_kept (gate name kind pins) right = rw right (same_kept name (gate_named name kind pins right))
   given_kept none right = absurd (false≢true right)
 
--- The same of a line as it was read, and of the lines from it on.
+-- The same of the lines from it on.
 given_first : (form : Form) (rest : List Form) (word : Letters) → is_name word ≡ true → all_right (form ∷ rest) ≡ true
-    → ((not (eqb (line_kept form).kind 0) && same_name (line_kept form).name (name_kept word)) || known word (names_of rest))
-    ≡ known word (names_of (form ∷ rest))
+    → (gives (line_kept form) (name_kept word) || known word (names_of rest)) ≡ known word (names_of (form ∷ rest))
 unfolding all_right names_of
 given_first form rest word proper right =
     let here = and_left (form_right form) (all_right rest) right in
-    rw (line_kept_lem form (line_kept form) refl here, given_kept word proper form here) (sym (known_append word (given_by form) (names_of rest)))
+    rw (given_kept word proper form here) (sym (known_append word (given_by form) (names_of rest)))
 
 pub given_nowhere : (name : Name) → GivenIn [] name false
 unfolding names_of known
@@ -57,16 +51,12 @@ given_nowhere name word proper is right = refl
 
 -- The lines that are left of some first ones: none, or the one at byte `at` and those after it.
 
-pub none_left : (text : List ℕ) (at lines passed : ℕ) → (ltb at (length text) && ltb passed lines) ≡ false
-    → take (lines - passed) (forms_of (drop at text)) ≡ []
-none_left text at lines passed e =
-    cases (ltb passed lines)
-    (λ t. rw (no_forms text at (first_not_below at (length text) passed lines e (ltb-true _ _ t))) (take-nil (lines - passed)))
-    (λ t. let n : lines - passed ≡ 0 = omega (arith, ltb-false passed lines t) in rw n refl)
+pub none_left : (text : List ℕ) (at n : ℕ) → length text ≤ at → take n (forms_of (drop at text)) ≡ []
+none_left text at n h = rw (no_forms text at h) (take-nil n)
 
 module _ {text : List ℕ} {at : ℕ} {span : Span} (line : LineAt text at span) (lines passed : ℕ) (h : passed < lines) (name : Name)
-    {kept : Line} {s : Bool}
-    (is : kept ≡ line_kept (line_form (take (span.end - at) (drop at text)))) (tested : s ≡ same_name kept.name name) where
+    {read : Option Line} {b : Bool}
+    (is : read ≡ line_kept (line_form (take (span.end - at) (drop at text)))) (tested : b ≡ gives read name) where
   abbrev left : List Form
   left = take (lines - (passed + 1)) (forms_of (drop span.next text))
 
@@ -75,39 +65,34 @@ module _ {text : List ℕ} {at : ℕ} {span : Span} (line : LineAt text at span)
       let e : lines - passed ≡ suc (lines - (passed + 1)) = omega arith in
       rw (e, forms_at line) refl
 
-  by_first : (b : Bool) → (not (eqb kept.kind 0) && s) ≡ b → (word : Letters) → is_name word ≡ true → name ≡ name_kept word
+  by_first : (word : Letters) → is_name word ≡ true → name ≡ name_kept word
       → all_right (take (lines - passed) (forms_of (drop at text))) ≡ true
       → (all_right left ≡ true) × ((b || known word (names_of left)) ≡ known word (names_of (take (lines - passed) (forms_of (drop at text)))))
   unfolding all_right
-  by_first b e word proper named right =
+  by_first word proper named right =
       let form = line_form (take (span.end - at) (drop at text)) in
       let all : all_right (form ∷ left) ≡ true = rw first_left at right in
-      let b_is : b ≡ (not (eqb (line_kept form).kind 0) && same_name (line_kept form).name (name_kept word)) =
-      sym e ∙ rw (tested, is, named) refl in
-      (and_right (form_right form) (all_right left) all, rw (first_left, b_is) (given_first form left word proper all))
+      (and_right (form_right form) (all_right left) all, rw (first_left, tested, is, named) (given_first form left word proper all))
 
-  pub given_here : (not (eqb kept.kind 0) && s) ≡ true → GivenIn (take (lines - passed) (forms_of (drop at text))) name true
-  given_here e word proper named right = (by_first true e word proper named right).1
+  pub given_here : b ≡ true → GivenIn (take (lines - passed) (forms_of (drop at text))) name true
+  given_here e word proper named right = rw e at (by_first word proper named right).1
 
-  pub given_later : (not (eqb kept.kind 0) && s) ≡ false → (r : Bool) → GivenIn left name r
-      → GivenIn (take (lines - passed) (forms_of (drop at text))) name r
+  pub given_later : b ≡ false → (r : Bool) → GivenIn left name r → GivenIn (take (lines - passed) (forms_of (drop at text))) name r
   given_later e r later word proper named right =
-      let first = by_first false e word proper named right in
-      later word proper named first.0 ∙ first.1
+      let first = by_first word proper named right in
+      later word proper named first.0 ∙ rw e at first.1
 
 -- A name is known that has a place among those held, or else that the lines give.
-module _ (forms : List Form) {firsts seconds : List ℕ} {name : Name} {place : ℕ} (placed : Placed firsts seconds 1024 name place) where
-  by_place : (names : List Letters) (word : Letters) → Held names firsts seconds 1024 → is_name word ≡ true → name ≡ name_kept word
-      → known word (names ++ names_of forms) ≡ (ltb place 1024 || known word (names_of forms))
+module _ (forms : List Form) {kept : List Name} {name : Name} {place : Option ℕ} (placed : Placed kept name place) where
+  by_place : (names : List Letters) (word : Letters) → Held names kept → is_name word ≡ true → name ≡ name_kept word
+      → (is_some place || known word (names_of forms)) ≡ known word (names ++ names_of forms)
   by_place names word held proper named =
-      known_append word names (names_of forms)
-      ∙ ap (λ b. b || known word (names_of forms)) (known_by_place placed names word held proper named)
+      ap (λ b. b || known word (names_of forms)) (known_by_place placed names word held proper named)
+      ∙ sym (known_append word names (names_of forms))
 
-  pub known_held : place < 1024 → KnownIn forms firsts seconds name true
-  known_held h names word held right proper named =
-      sym (by_place names word held proper named ∙ ap (λ b. b || known word (names_of forms)) (lt-ltb place 1024 h))
+  pub known_held : is_some place ≡ true → KnownIn forms kept name true
+  known_held h names word held right proper named = rw h at by_place names word held proper named
 
-  pub known_given : 1024 ≤ place → (r : Bool) → GivenIn forms name r → KnownIn forms firsts seconds name r
+  pub known_given : is_some place ≡ false → (r : Bool) → GivenIn forms name r → KnownIn forms kept name r
   known_given h r given names word held right proper named =
-      given word proper named right
-      ∙ sym (by_place names word held proper named ∙ ap (λ b. b || known word (names_of forms)) (le-ltb place 1024 h))
+      given word proper named right ∙ rw h at by_place names word held proper named

@@ -1,6 +1,6 @@
 -- Laws of what is answered and handed over, by the verdict.
 -- Assumes nothing.
-use Prim.Native.Nat.{ℕ, ◌*◌}
+use Prim.Native.Nat.{ℕ}
 use mathlib.Core.Bool.{false}
 use mathlib.Core.List.{List, [], ◌++◌}
 use mathlib.Core.Path.{◌≡◌, refl, sym, ap, subst, ◌∙◌}
@@ -19,13 +19,12 @@ use Rattle.block.proofs.Accepted.{counts_of, refused_verdict}
 use Rattle.netlist.specs.Forms.{forms_of}
 use Rattle.bench.specs.declared.BenchAnswer.{BenchAnswer}
 use Rattle.bench.specs.declared.BenchAnswer.TheVariants as answer
-use Rattle.bench.specs.declared.Taken.{Taken}
-use Rattle.bench.specs.declared.Taken.TheVariants as taken
+use Rattle.bench.specs.declared.Table.{Table}
 use Rattle.bench.specs.Checks.{lines_from}
 use Rattle.bench.specs.Records.{records_from}
 use Rattle.bench.specs.Bench.{BenchArguments, bench_records, lent_checks, text_checks, bench_checks, bench_verdict, overlaid}
 use Rattle.bench.specs.Bench.{Handed, Benched}
-use Rattle.bench.specs.Held.{TextTaken}
+use Rattle.bench.specs.Held.{made_records, TextTaken}
 
 module _ (made : File) (given : List ℕ) where
   -- A refusal is the answer, and nothing is changed.
@@ -54,21 +53,21 @@ module _ (made : File) (given : List ℕ) where
       rw counts.0 (record { answered = ap answer.Count (sym counts.1); written = copied ∙ whole })
 
 -- The lines' refusal, or what Read says of their records, is what the call comes to once all that is lent is right.
-module _ (given : BenchArguments) {made' : List ℕ} {r : Taken} (all : TextTaken given.text given.list made' r) where
-  pub text_refused : (q : Refusal) → r ≡ taken.Refused q
+module _ (given : BenchArguments) {table : Table} {v : Verdict} (all : TextTaken given.text given.list table v) where
+  pub text_refused : (q : Refusal) → v ≡ Refused q
       → Handed (verdict (text_checks given)) (bench_records given) given.records (answer.Refused q) given.records
   unfolding text_checks bench_records
   text_refused q e = handed_refusal _ _ q (all.refused q e)
 
-  pub text_made : {count : ℕ} {answered : BenchAnswer} {records' : List ℕ} → r ≡ taken.Records count
-      → Handed (verdict (read_checks (take (20 * count) made'))) (take (20 * count) made') given.records answered records'
+  pub text_made : {made : File} {answered : BenchAnswer} {records' : List ℕ} → v ≡ Accepted → made ≡ made_records table
+      → Handed (verdict (read_checks made)) made given.records answered records'
       → Handed (verdict (text_checks given)) (bench_records given) given.records answered records'
   unfolding text_checks bench_records
-  text_made {count} {answered} {records'} e h =
-      let a = all.accepted count e in
-      let made = records_from given.list [] (forms_of given.text) in
-      handed_by _ _ (sym (accepted_first (lines_from 1 [] false (forms_of given.text)) (read_checks made) a.0))
-      (subst (λ m. Handed (verdict (read_checks m)) m given.records answered records') (sym a.1) h)
+  text_made {made} {answered} {records'} e is h =
+      let a = all.accepted e in
+      let records = records_from given.list [] (forms_of given.text) in
+      handed_by _ _ (sym (accepted_first (lines_from 1 [] false (forms_of given.text)) (read_checks records) a.0))
+      (subst (λ m. Handed (verdict (read_checks m)) m given.records answered records') (is ∙ sym a.1) h)
 
 -- The checks on what is lent come first.
 module _ (given : BenchArguments) {lent : Verdict} (judged : lent ≡ verdict (lent_checks given)) where

@@ -1,25 +1,24 @@
 -- Laws of the verdict on a line, as code comes to it from the line as it is kept.
 -- Assumes nothing.
 use Prim.Native.Nat.{ℕ}
-use mathlib.Core.Bool.{Bool, true, false, not, false≢true, ◌&&◌, and-true}
+use mathlib.Core.Bool.{Bool, true, false, cond, not, false≢true, ◌&&◌}
 use mathlib.Core.List.{List, [], ◌++◌}
-use mathlib.Core.Path.{◌≡◌, refl, sym, ap, ◌∙◌}
-use native.Mathlib.Omega.{arith}
-use lib.Dec.{eqb}
-use lib.ListN.{length}
-use borrow.Author.Tests.{not-true}
+use mathlib.Core.Path.{◌≡◌, refl, ap, ◌∙◌}
+use borrow.Table.Steps.{cases}
 use Rattle.block.specs.Verdict.{check, verdict, also, refusal}
 use Rattle.block.specs.declared.Verdict.{Verdict}
 use Rattle.block.specs.declared.Verdict.TheVariants.{Accepted, Refused}
 use Rattle.block.proofs.Verdicts.{all_passed, more_by}
-use Rattle.netlist.specs.Names.{Letters, is_name, are_names, known, all_known}
-use Rattle.netlist.specs.Forms.{Form, empty, input, output, gate, none, kind_named, form_right, names_of}
-use Rattle.netlist.specs.Kept.{name_kept, four_kept, right_kept}
-use Rattle.netlist.specs.declared.Line.{Line}
-use Rattle.netlist.proofs.RightGates.{gate_kind, gate_named, gate_pins}
-use Rattle.bench.specs.Checks.{in_place, names_right, line_checks}
+use Rattle.netlist.specs.Names.{Letters, is_name, known, all_known}
+use Rattle.netlist.specs.Forms.{Form, empty, input, output, gate, none, form_right, names_of}
+use Rattle.netlist.specs.Kept.{right_kept}
+use Rattle.netlist.specs.declared.GateLine.{GateLine}
+use Rattle.netlist.specs.declared.Line.TheVariants.{Nothing, Input, Gate}
+use Rattle.netlist.specs.declared.Name.{Name}
+use Rattle.netlist.proofs.RightGates.{gate_named, gate_pins}
+use Rattle.bench.specs.Checks.{names_right, line_checks}
 use Rattle.bench.specs.Held.{KnownIn, AllKnownIn, JudgedIn}
-use Rattle.bench.proofs.KeptLines.{Giving, by_input, by_gate, giving, no_input}
+use Rattle.bench.proofs.KeptLines.{input_told, gate_told}
 
 module _ (number : ℕ) (names : List Letters) (gates : Bool) where
   -- A line that is not right by itself fails check 17.
@@ -28,59 +27,56 @@ module _ (number : ℕ) (names : List Letters) (gates : Bool) where
   wrong_line_lem form wrong = rw wrong refl
 
   -- A right line that gives no record passes both checks.
-  pub no_record : (form : Form) → form_right form ≡ true → (right_kept form).kind ≡ 0 → Accepted ≡ verdict (line_checks number names gates form)
+  pub no_record : (form : Form) → form_right form ≡ true → Nothing ≡ right_kept form → Accepted ≡ verdict (line_checks number names gates form)
   unfolding line_checks verdict form_right names_right
   no_record empty right e = refl
-  no_record (input name) right e = absurd (omega arith)
+  no_record (input name) right e = cc
   no_record (output name) right e = rw right refl
-  no_record (gate name word pins) right e = absurd (omega (arith, gate_kind name word pins right))
+  no_record (gate name word pins) right e = cc
   no_record none right e = absurd (false≢true right)
 
--- Check 17 of a right line that gives a record.
-in_place_lem : (gates : Bool) {form : Form} → Giving form → form_right form ≡ true
-    → not (eqb (right_kept form).kind 1 && gates) ≡ (form_right form && in_place gates form)
-in_place_lem gates (by_input name) right = rw right refl
-in_place_lem gates (by_gate name word pins) right =
-    rw (right, not-true (eqb (kind_named word) 1) (no_input (by_gate name word pins) right)) refl
+  -- An input's line, from whether its name is new.
+  pub input_judged : (word : Letters) {new : Bool} {v w : Verdict} → is_name word ≡ true → new ≡ not (known word names)
+      → v ≡ also Accepted (check 17 number (not gates)) → w ≡ also v (check 18 number new)
+      → w ≡ verdict (line_checks number names gates (input word))
+  unfolding line_checks form_right names_right
+  input_judged word proper is first second =
+      more_by _ 18 number (more_by [] 17 number all_passed first (rw proper refl)) second is
 
--- Its check 18, from whether its name is new and whether its pins are known.
-names_right_lem : (names : List Letters) {form : Form} (new found : Bool) → Giving form → form_right form ≡ true
-    → ((name : Letters) → is_name name ≡ true → (right_kept form).name ≡ name_kept name → new ≡ not (known name names))
-    → ((pins : List Letters) → are_names pins ≡ true → (right_kept form).used ≡ length pins → (right_kept form).pins ≡ four_kept pins
-    → found ≡ all_known pins names)
-    → (new && found) ≡ names_right names form
-unfolding form_right names_right are_names all_known four_kept
-names_right_lem names new found (by_input name) right k f = rw (k name right refl, f [] refl refl refl) (and-true _)
-names_right_lem names new found (by_gate name word pins) right k f =
-    rw (k name (gate_named name word pins right) refl, f pins (gate_pins name word pins right) refl refl) refl
+  -- A right gate's line, from whether its name is new and its pins are known.
+  pub gate_judged : (name word : Letters) (pins : List Letters) {new found : Bool} → form_right (gate name word pins) ≡ true
+      → new ≡ not (known name names) → found ≡ all_known pins names
+      → cond (new && found) Accepted (Refused (refusal 18 number)) ≡ verdict (line_checks number names gates (gate name word pins))
+  unfolding line_checks verdict names_right
+  gate_judged name word pins right new_is found_is =
+      rw (right, new_is, found_is)
+      (cases (not (known name names) && all_known pins names) (λ t. rw t refl) (λ t. rw t refl))
 
--- Both, of the line as it is kept.
-pub record_judged : (number : ℕ) (names : List Letters) (gates : Bool) (form : Form) (line : Line) (new found : Bool) {v w : Verdict}
-    → line ≡ right_kept form → form_right form ≡ true → (line.kind ≡ 0 → ⊥)
-    → ((name : Letters) → is_name name ≡ true → line.name ≡ name_kept name → new ≡ not (known name names))
-    → ((pins : List Letters) → are_names pins ≡ true → line.used ≡ length pins → line.pins ≡ four_kept pins → found ≡ all_known pins names)
-    → v ≡ also Accepted (check 17 number (not (eqb line.kind 1 && gates))) → w ≡ also v (check 18 number (new && found))
-    → w ≡ verdict (line_checks number names gates form)
-unfolding line_checks
-record_judged number names gates form line new found is right some named known_pins first second =
-    let kind : line.kind ≡ (right_kept form).kind = ap (λ l. l.kind) is in
-    let one = giving form (λ e. some (kind ∙ e)) in
-    let place = ap (λ k. not (eqb k 1 && gates)) kind ∙ in_place_lem gates one right in
-    let names_are = names_right_lem names new found one right (λ name proper kept. named name proper (ap (λ l. l.name) is ∙ kept))
-    (λ pins proper as_many kept. known_pins pins proper (ap (λ l. l.used) is ∙ as_many) (ap (λ l. l.pins) is ∙ kept)) in
-    more_by _ 18 number (more_by [] 17 number all_passed first place) second names_are
+-- One check more than none.
+also_told : (number place : ℕ) (holds : Bool) → also Accepted (check number place holds) ≡ cond holds Accepted (Refused (refusal number place))
+unfolding also
+also_told number place true = refl
+also_told number place false = refl
 
 -- Lines after the 1,024th record.
-module _ (forms : List Form) (firsts seconds : List ℕ) (line : Line) (number : ℕ) (gates : Bool) where
-  pub judged_none : line.kind ≡ 0 → JudgedIn forms firsts seconds line number gates Accepted
-  judged_none e names form held right is formed =
-      no_record number (names ++ names_of forms) gates form formed (sym (ap (λ l. l.kind) is) ∙ e)
+module _ (forms : List Form) (kept : List Name) (number : ℕ) (gates : Bool) where
+  pub judged_none : JudgedIn forms kept Nothing number gates Accepted
+  judged_none names form held right is formed = no_record number (names ++ names_of forms) gates form formed is
 
-  pub judged_record : {again found : Bool} {v w : Verdict} → (line.kind ≡ 0 → ⊥) → KnownIn forms firsts seconds line.name again
-      → AllKnownIn forms firsts seconds line found
-      → v ≡ also Accepted (check 17 number (not (eqb line.kind 1 && gates))) → w ≡ also v (check 18 number (not again && found))
-      → JudgedIn forms firsts seconds line number gates w
-  judged_record {again} {found} some one all first second names form held right is formed =
-      record_judged number (names ++ names_of forms) gates form line (not again) found is formed some
-      (λ name proper kept. ap not (one names name held right proper kept))
-      (λ pins proper as_many kept. all names pins held right proper as_many kept) first second
+  pub judged_input : {name : Name} {again : Bool} {v w : Verdict} → KnownIn forms kept name again
+      → v ≡ also Accepted (check 17 number (not gates)) → w ≡ also v (check 18 number (not again))
+      → JudgedIn forms kept (Input name) number gates w
+  judged_input {w = w} one first second names form held right is formed =
+      input_told (λ form. w ≡ verdict (line_checks number (names ++ names_of forms) gates form)) form formed is
+      (λ word proper named. input_judged number (names ++ names_of forms) gates word proper (ap not (one names word held right proper named)) first second)
+
+  pub judged_gate : {given : GateLine} {again found : Bool} {v : Verdict} → KnownIn forms kept given.name again
+      → AllKnownIn forms kept given.pins found → v ≡ also Accepted (check 18 number (not again && found))
+      → JudgedIn forms kept (Gate given) number gates v
+  judged_gate {v = v} one all first names form held right is formed =
+      gate_told (λ form. v ≡ verdict (line_checks number (names ++ names_of forms) gates form)) form formed is
+      (λ name word pins fits same.
+      first ∙ also_told 18 number _
+      ∙ gate_judged number (names ++ names_of forms) gates name word pins fits
+      (ap not (one names name held right (gate_named name word pins fits) (ap (λ g. g.name) same)))
+      (all names pins held right (gate_pins name word pins fits) (ap (λ g. g.pins) same)))

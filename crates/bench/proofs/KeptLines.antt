@@ -1,100 +1,86 @@
 -- Laws of lines as they are kept: which of them are right, and what code reads off a right one.
 -- Assumes nothing.
-use Prim.Native.Nat.{◌≤◌}
-use mathlib.Core.Bool.{Bool, true, false, not, cond, false≢true}
+use mathlib.Core.Bool.{true, false, false≢true}
 use mathlib.Core.List.{List}
-use mathlib.Core.Path.{◌≡◌, refl, sym, ap, ◌∙◌}
+use mathlib.Core.Path.{◌≡◌, refl, sym, ◌∙◌}
 use native.Mathlib.Omega.{arith}
-use lib.Dec.{eqb, leb, ltb}
+use lib.Dec.{leb}
 use lib.ListN.{length}
-use borrow.Author.Tests.{ne_eqb, lt-ltb}
-use Rattle.netlist.specs.Names.{Letters}
-use Rattle.netlist.specs.Forms.{Form, empty, input, output, gate, none, kind_named, form_right, given_by, is_gate}
-use Rattle.netlist.specs.Kept.{right_kept, wrong_line, line_kept}
+use borrow.Table.Steps.{cases}
+use Rattle.std.proofs.Common.{Option, Some, None}
+use Rattle.std.specs.Prelude.{is_some}
+use Rattle.netlist.specs.Names.{Letters, is_name}
+use Rattle.netlist.specs.Forms.{Form, empty, input, output, gate, none, form_right, given_by, is_gate}
+use Rattle.netlist.specs.Kept.{name_kept, gate_kept, right_kept, line_kept, line_name, line_is_gate}
+use Rattle.netlist.specs.declared.GateLine.{GateLine}
 use Rattle.netlist.specs.declared.Line.{Line}
-use Rattle.netlist.proofs.RightGates.{kind_high, gate_kind, gate_few}
-use Rattle.bench.specs.Held.{GivesRecord}
+use Rattle.netlist.specs.declared.Line.TheVariants.{Input, Gate}
+use Rattle.netlist.specs.declared.Name.{Name}
+use Rattle.netlist.proofs.RightGates.{gate_few}
+use Rattle.bench.specs.Held.{FewPins}
 
--- A line is kept as right where its form is.
+-- A line is kept where its form is right, and as that form is.
 
-right_is : (form : Form) → form_right form ≡ true → (right_kept form).right ≡ true
-unfolding form_right
-right_is empty e = refl
-right_is (input name) e = refl
-right_is (output name) e = refl
-right_is (gate name word pins) e = refl
-right_is none e = absurd (false≢true e)
-
-right_by : (form : Form) (b : Bool) → form_right form ≡ b → (cond b (right_kept form) wrong_line).right ≡ b
-right_by form true e = right_is form e
-right_by form false e = refl
-
-pub line_right : (form : Form) (line : Line) → line ≡ line_kept form → line.right ≡ form_right form
+pub line_wrong : (form : Form) {read : Option Line} → read ≡ line_kept form → read ≡ None → form_right form ≡ false
 unfolding line_kept
-line_right form line e = ap (λ l. l.right) e ∙ right_by form (form_right form) refl
+line_wrong form kept nothing =
+    let is : None ≡ line_kept form = sym nothing ∙ kept in
+    cases (form_right form) (λ t. let told = rw t at is in cc) (λ t. t)
 
-pub line_kept_lem : (form : Form) (line : Line) → line ≡ line_kept form → form_right form ≡ true → line ≡ right_kept form
+pub line_right : (form : Form) {read : Option Line} {line : Line} → read ≡ line_kept form → read ≡ Some line
+    → (form_right form ≡ true) × (line ≡ right_kept form)
 unfolding line_kept
-line_kept_lem form line e right = e ∙ rw right refl
+line_right form {line = line} kept some =
+    let is : Some line ≡ line_kept form = sym some ∙ kept in
+    cases (form_right form) (λ t. let told = rw t at is in (t, cc)) (λ t. let told = rw t at is in cc)
 
--- Whether a right line gives a record, whether it is a gate, and how many pins it has.
+-- Whether a right line gives a record, whether it is a gate, and that it has no more than four pins.
 
-pub gives_kept : (form : Form) → form_right form ≡ true → not (eqb (right_kept form).kind 0) ≡ leb 1 (length (given_by form))
+pub gives_lem : (form : Form) → form_right form ≡ true → is_some (line_name (right_kept form)) ≡ leb 1 (length (given_by form))
 unfolding form_right given_by
-gives_kept empty right = refl
-gives_kept (input name) right = refl
-gives_kept (output name) right = refl
-gives_kept (gate name word pins) right =
-    let kind = gate_kind name word pins right in
-    ap not (ne_eqb (kind_named word) 0 (λ e. omega arith))
-gives_kept none right = absurd (false≢true right)
+gives_lem empty right = refl
+gives_lem (input name) right = refl
+gives_lem (output name) right = refl
+gives_lem (gate name word pins) right = refl
+gives_lem none right = absurd (false≢true right)
 
-pub gate_kept : (form : Form) → form_right form ≡ true → ltb 1 (right_kept form).kind ≡ is_gate form
+pub gate_lem : (form : Form) → line_is_gate (right_kept form) ≡ is_gate form
+gate_lem empty = refl
+gate_lem (input name) = refl
+gate_lem (output name) = refl
+gate_lem (gate name word pins) = refl
+gate_lem none = refl
+
+pub pins_few_lem : (form : Form) → form_right form ≡ true → FewPins (right_kept form)
 unfolding form_right
-gate_kept empty right = refl
-gate_kept (input name) right = refl
-gate_kept (output name) right = refl
-gate_kept (gate name word pins) right = lt-ltb 1 (kind_named word) (gate_kind name word pins right)
-gate_kept none right = absurd (false≢true right)
+pins_few_lem empty right = omega arith
+pins_few_lem (input name) right = omega arith
+pins_few_lem (output name) right = omega arith
+pins_few_lem (gate name word pins) right = gate_few name word pins right
+pins_few_lem none right = omega arith
 
-used_few : (form : Form) → form_right form ≡ true → (right_kept form).used ≤ 4
-unfolding form_right
-used_few empty right = omega arith
-used_few (input name) right = omega arith
-used_few (output name) right = omega arith
-used_few (gate name word pins) right = gate_few name word pins right
-used_few none right = omega arith
-
--- The same of a line as it was read.
-pub read_few : (form : Form) {line : Line} → line ≡ line_kept form → line.right ≡ true → line.used ≤ 4
-read_few form {line} kept right =
-    let formed = sym (line_right form line kept) ∙ right in
-    rw (line_kept_lem form line kept formed) (used_few form formed)
-
--- The forms of the lines that give a record: a right line of a kind has one of them.
+-- The forms of the lines that give a record.
 pub data Giving : Form → Type 0 where
   by_input : (name : Letters) → Giving (input name)
   by_gate : (name word : Letters) (pins : List Letters) → Giving (gate name word pins)
 
-pub giving : (form : Form) → ((right_kept form).kind ≡ 0 → ⊥) → Giving form
-giving empty some = absurd (some refl)
-giving (input name) some = by_input name
-giving (output name) some = absurd (some refl)
-giving (gate name word pins) some = by_gate name word pins
-giving none some = absurd (some refl)
+-- A right line kept as an input or a gate is one.
 
-gives_record : {form : Form} → Giving form → form_right form ≡ true → GivesRecord (right_kept form)
-gives_record (by_input name) right = record { kind_low = omega arith; kind_high = omega arith; few = omega arith }
-gives_record (by_gate name word pins) right =
-    let low = gate_kind name word pins right in
-    record { kind_low = omega arith; kind_high = kind_high word; few = gate_few name word pins right }
+pub input_told : (P : Form → Type 0) (form : Form) {name : Name} → form_right form ≡ true → Input name ≡ right_kept form
+    → ((word : Letters) → is_name word ≡ true → name ≡ name_kept word → P (input word)) → P form
+unfolding form_right
+input_told P empty right e f = cc
+input_told P (input word) right e f = f word right cc
+input_told P (output word) right e f = cc
+input_told P (gate name word pins) right e f = cc
+input_told P none right e f = cc
 
-pub kind_gives : (form : Form) → form_right form ≡ true → ((right_kept form).kind ≡ 0 → ⊥) → GivesRecord (right_kept form)
-kind_gives form right some = gives_record (giving form some) right
-
--- Such a line is a gate where its kind is not that of an input.
-pub no_input : {form : Form} → Giving form → form_right form ≡ true → not (eqb (right_kept form).kind 1) ≡ is_gate form
-no_input (by_input name) right = refl
-no_input (by_gate name word pins) right =
-    let kind = gate_kind name word pins right in
-    ap not (ne_eqb (kind_named word) 1 (λ e. omega arith))
+pub gate_told : (P : Form → Type 0) (form : Form) {given : GateLine} → form_right form ≡ true → Gate given ≡ right_kept form
+    → ((name word : Letters) (pins : List Letters) → form_right (gate name word pins) ≡ true → given ≡ gate_kept name word pins
+    → P (gate name word pins))
+    → P form
+gate_told P empty right e f = cc
+gate_told P (input word) right e f = cc
+gate_told P (output word) right e f = cc
+gate_told P (gate name word pins) right e f = f name word pins right cc
+gate_told P none right e f = cc

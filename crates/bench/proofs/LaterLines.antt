@@ -1,15 +1,17 @@
 -- Laws of the lines after the 1,024th record, judged one after the other.
 -- Assumes nothing.
 use Prim.Native.Nat.{ℕ, suc, ◌+◌, ◌-◌, ◌≤◌}
-use mathlib.Core.Bool.{Bool, true, false, not, ◌||◌}
+use mathlib.Core.Bool.{Bool, true, false, ◌||◌}
 use mathlib.Core.List.{List, [], ◌∷◌, ◌++◌, append_assoc, append-nil}
 use mathlib.Core.Path.{◌≡◌, refl, sym, ap, subst, ◌∙◌}
 use native.Mathlib.Nat.{add-zero}
 use native.Mathlib.Omega.{arith}
-use lib.Dec.{eqb, leb, ltb}
+use lib.Dec.{leb}
 use lib.ListN.{length, take, drop, length-append}
 use lib.Seq.{take_at}
 use borrow.Author.Tests.{le-leb}
+use Rattle.std.proofs.Common.{Option, Some, None}
+use Rattle.std.specs.Prelude.{is_some}
 use Rattle.laws.proofs.Tests.{and_left, and_right, and_both}
 use Rattle.block.specs.Verdict.{verdict, refusal}
 use Rattle.block.specs.declared.Refusal.{Refusal}
@@ -18,13 +20,14 @@ use Rattle.block.specs.declared.Verdict.TheVariants.{Accepted, Refused}
 use Rattle.block.proofs.Verdicts.{apart, all_passed}
 use Rattle.netlist.specs.Names.{Letters}
 use Rattle.netlist.specs.Forms.{Form, line_form, forms_of, form_right, given_by, names_of, is_gate}
-use Rattle.netlist.specs.Kept.{LineAt, right_kept, line_kept}
+use Rattle.netlist.specs.Kept.{LineAt, right_kept, line_kept, line_name, line_is_gate}
 use Rattle.netlist.specs.declared.Line.{Line}
+use Rattle.netlist.specs.declared.Name.{Name}
 use Rattle.netlist.specs.declared.Span.{Span}
 use Rattle.bench.specs.Checks.{line_checks, lines_from}
 use Rattle.bench.specs.Held.{Held, all_right, JudgedIn, JudgedLater}
 use Rattle.bench.proofs.Lines.{forms_at, no_forms, lines_refused, lines_next}
-use Rattle.bench.proofs.KeptLines.{line_right, line_kept_lem, gives_kept, gate_kept}
+use Rattle.bench.proofs.KeptLines.{line_wrong, line_right, gives_lem, gate_lem}
 use Rattle.bench.proofs.Judged.{wrong_line_lem}
 use Rattle.bench.proofs.LineAmong.{names_append}
 
@@ -45,22 +48,22 @@ some_both (word ∷ s) t =
     le-leb 1 (suc (length (s ++ t))) (omega arith) ∙ ap (λ b. b || leb 1 (length t)) (sym (le-leb 1 (suc (length s)) (omega arith)))
 
 -- Lines from byte `from` up to byte `at` judged, all of them accepted.
-pub record LinesJudged (text firsts seconds : List ℕ) (from number : ℕ) (gates : Bool) (at passed : ℕ) (after more : Bool) : Type 0 where
+pub record LinesJudged (text : List ℕ) (kept : List Name) (from number : ℕ) (gates : Bool) (at passed : ℕ) (after more : Bool) : Type 0 where
   pub before : List Form
   pub counted : length before ≡ passed
   pub split : forms_of (drop from text) ≡ before ++ forms_of (drop at text)
   pub right : all_right before ≡ true
-  pub judged : (names : List Letters) → Held names firsts seconds 1024
+  pub judged : (names : List Letters) → Held names kept
       → verdict (lines_from number names gates (forms_of (drop from text)))
       ≡ verdict (lines_from (number + passed) (names ++ names_of before) after (forms_of (drop at text)))
   pub given : more ≡ leb 1 (length (names_of before))
   pub inside : at ≤ length text
   pub numbered : number + passed ≤ at + 1
 
-pub none_judged : (text firsts seconds : List ℕ) (from number : ℕ) (gates : Bool) → from ≤ length text → number ≤ from + 1
-    → LinesJudged text firsts seconds from number gates from 0 gates false
+pub none_judged : (text : List ℕ) (kept : List Name) (from number : ℕ) (gates : Bool) → from ≤ length text → number ≤ from + 1
+    → LinesJudged text kept from number gates from 0 gates false
 unfolding all_right names_of
-none_judged text firsts seconds from number gates inside numbered =
+none_judged text kept from number gates inside numbered =
     record {
       before = [];
       counted = refl;
@@ -72,10 +75,10 @@ none_judged text firsts seconds from number gates inside numbered =
       numbered = omega arith;
     }
 
-module _ {text firsts seconds : List ℕ} {from number : ℕ} {gates : Bool} {at passed : ℕ} {after more : Bool}
-    (j : LinesJudged text firsts seconds from number gates at passed after more) where
+module _ {text : List ℕ} {kept : List Name} {from number : ℕ} {gates : Bool} {at passed : ℕ} {after more : Bool}
+    (j : LinesJudged text kept from number gates at passed after more) where
   -- What is left decides.
-  by_left : (names : List Letters) → Held names firsts seconds 1024 → {left : List Form} → forms_of (drop at text) ≡ left
+  by_left : (names : List Letters) → Held names kept → {left : List Form} → forms_of (drop at text) ≡ left
       → verdict (lines_from number names gates (forms_of (drop from text)))
       ≡ verdict (lines_from (number + passed) (names ++ names_of j.before) after left)
   by_left names held e =
@@ -83,7 +86,7 @@ module _ {text firsts seconds : List ℕ} {from number : ℕ} {gates : Bool} {at
 
   -- All lines are judged.
   pub all_judged : length text ≤ at
-      → JudgedLater (forms_of (drop from text)) firsts seconds number gates (record { verdict = Accepted; more = more })
+      → JudgedLater (forms_of (drop from text)) kept number gates (record { verdict = Accepted; more = more })
   unfolding lines_from
   all_judged h names held =
       let none = no_forms text at h in
@@ -94,44 +97,44 @@ module _ {text firsts seconds : List ℕ} {from number : ℕ} {gates : Bool} {at
       }
 
   -- A line more.
-  module _ {span : Span} {line : Line} (here : LineAt text at span)
-      (kept : line ≡ line_kept (line_form (take (span.end - at) (drop at text)))) where
+  module _ {span : Span} {read : Option Line} (here : LineAt text at span)
+      (is : read ≡ line_kept (line_form (take (span.end - at) (drop at text)))) where
     abbrev form : Form
     form = line_form (take (span.end - at) (drop at text))
 
     abbrev rest : List Form
     rest = forms_of (drop span.next text)
 
-    pub form_refused : line.right ≡ false
-        → JudgedLater (forms_of (drop from text)) firsts seconds number gates
+    pub form_refused : read ≡ None
+        → JudgedLater (forms_of (drop from text)) kept number gates
         (record { verdict = Refused (refusal 17 (number + passed)); more = false })
     form_refused e names held =
-        let wrong : form_right form ≡ false = sym (line_right form line kept) ∙ e in
+        let wrong = line_wrong form is e in
         record {
           judged = sym (by_left names held (forms_at here)
               ∙ lines_refused _ _ _ form rest _ (sym (wrong_line_lem (number + passed) (names ++ names_of j.before) after form wrong)));
           more = λ a. apart _ a;
         }
 
-    module _ {v : Verdict} (right : line.right ≡ true)
-        (judge : JudgedIn (take passed (forms_of (drop from text))) firsts seconds line (number + passed) after v) where
+    module _ {line : Line} {v : Verdict} (some : read ≡ Some line)
+        (judge : JudgedIn (take passed (forms_of (drop from text))) kept line (number + passed) after v) where
       formed : form_right form ≡ true
-      formed = sym (line_right form line kept) ∙ right
+      formed = (line_right form is some).0
 
       as_kept : line ≡ right_kept form
-      as_kept = line_kept_lem form line kept formed
+      as_kept = (line_right form is some).1
 
-      line_judged : (names : List Letters) → Held names firsts seconds 1024
+      line_judged : (names : List Letters) → Held names kept
           → v ≡ verdict (line_checks (number + passed) (names ++ names_of j.before) after form)
       line_judged names held =
           let first : take passed (forms_of (drop from text)) ≡ j.before =
           ap (take passed) j.split ∙ take_at j.before (forms_of (drop at text)) passed j.counted in
-          let judged : JudgedIn j.before firsts seconds line (number + passed) after v =
-          subst (λ forms. JudgedIn forms firsts seconds line (number + passed) after v) first judge in
+          let judged : JudgedIn j.before kept line (number + passed) after v =
+          subst (λ forms. JudgedIn forms kept line (number + passed) after v) first judge in
           judged names form held j.right as_kept formed
 
       pub line_refused : (r : Refusal) (m : Bool) → v ≡ Refused r
-          → JudgedLater (forms_of (drop from text)) firsts seconds number gates (record { verdict = Refused r; more = m })
+          → JudgedLater (forms_of (drop from text)) kept number gates (record { verdict = Refused r; more = m })
       line_refused r m e names held =
           record {
             judged = sym (by_left names held (forms_at here) ∙ lines_refused _ _ _ form rest r (sym (line_judged names held) ∙ e));
@@ -139,12 +142,12 @@ module _ {text firsts seconds : List ℕ} {from number : ℕ} {gates : Bool} {at
           }
 
       pub judged_next : v ≡ Accepted
-          → LinesJudged text firsts seconds from number gates span.next (passed + 1) (after || ltb 1 line.kind)
-          (more || not (eqb line.kind 0))
+          → LinesJudged text kept from number gates span.next (passed + 1) (after || line_is_gate line)
+          (more || is_some (line_name line))
       judged_next e =
-          let gate : ltb 1 line.kind ≡ is_gate form = ap (λ l. ltb 1 l.kind) as_kept ∙ gate_kept form formed in
-          let some : not (eqb line.kind 0) ≡ leb 1 (length (given_by form)) =
-          ap (λ l. not (eqb l.kind 0)) as_kept ∙ gives_kept form formed in
+          let gate : line_is_gate line ≡ is_gate form = ap line_is_gate as_kept ∙ gate_lem form in
+          let given : is_some (line_name line) ≡ leb 1 (length (given_by form)) =
+          ap (λ l. is_some (line_name l)) as_kept ∙ gives_lem form formed in
           let next : number + (passed + 1) ≡ number + passed + 1 = omega arith in
           let names_are = names_more j.before form in
           let numbered = j.numbered in
@@ -157,7 +160,7 @@ module _ {text firsts seconds : List ℕ} {from number : ℕ} {gates : Bool} {at
             judged = λ names held.
                 rw (next, names_are, gate, ← append_assoc names (names_of j.before) (given_by form))
                 (by_left names held (forms_at here) ∙ lines_next _ _ _ form rest (sym (line_judged names held) ∙ e));
-            given = rw (j.given, some, names_are) (sym (some_both (names_of j.before) (given_by form)));
+            given = rw (j.given, given, names_are) (sym (some_both (names_of j.before) (given_by form)));
             inside = here.inside;
             numbered = omega arith;
           }

@@ -1,98 +1,79 @@
 -- Laws of names looked up among those that are held.
 -- Assumes nothing.
-use Prim.Native.Nat.{ℕ, suc, ◌+◌, ◌≤◌, ◌<◌}
-use mathlib.Core.Bool.{Bool, true, false, cond, ◌&&◌}
-use mathlib.Core.List.{List, []}
-use mathlib.Core.Path.{◌≡◌, refl, sym, ap, ◌∙◌}
-use native.Mathlib.Numerals.{add-one}
-use native.Mathlib.Omega.{arith}
-use lib.Dec.{eqb, ltb}
-use lib.ListN.{length, get_or, drop}
-use lib.Seq.{drop-cons, drop-length}
-use borrow.Author.Tests.{lt-ltb}
-use Rattle.laws.specs.Below.{all_below}
-use Rattle.laws.proofs.Below.{all_same}
-use Rattle.netlist.specs.Names.{Letters, is_name, same, known, all_known, position}
-use Rattle.netlist.specs.Kept.{name_kept}
+use Prim.Native.Nat.{ℕ, ◌<◌}
+use mathlib.Core.Bool.{Bool, true, false, cond}
+use mathlib.Core.List.{List, [], ◌∷◌, map}
+use mathlib.Core.Path.{◌≡◌, refl, ap, ◌∙◌}
+use native.Mathlib.Numerals.{one-add}
+use lib.Dec.{ltb}
+use lib.ListN.{length, get_or, length-map}
+use borrow.Author.Tests.{lt-ltb, ltb-true}
+use borrow.Table.Steps.{cases}
+use Rattle.std.proofs.Common.{Option, Some, None}
+use Rattle.std.specs.Prelude.{is_some, IfSome}
+use Rattle.std.specs.List.{position_or_len}
+use Rattle.laws.proofs.Tests.{and_left, and_right}
+use Rattle.netlist.specs.Names.{Letters, is_name, are_names, same, known, position}
+use Rattle.netlist.specs.Kept.{name_kept, same_name}
 use Rattle.netlist.specs.declared.Name.{Name}
 use Rattle.netlist.proofs.Packing.{kept_same}
-use Rattle.netlist.proofs.KnownWords.{same_turned, name_at, known_by_position, all_known_by_position}
+use Rattle.netlist.proofs.KnownWords.{same_turned, known_by_position}
 use Rattle.bench.specs.Records.{pin_net}
-use Rattle.bench.specs.Held.{Held, Placed}
+use Rattle.bench.specs.Held.{Held}
 
-module _ (firsts seconds : List ℕ) (count first second : ℕ) where
-  -- What is said of a word by the two numbers that it is kept as, and by the names held.
-  abbrev OfWord : (List Letters → Letters → Type 0) → Type 0
-  OfWord P =
-      (names : List Letters) (word : Letters) → Held names firsts seconds count → is_name word ≡ true → first ≡ (name_kept word).first
-      → second ≡ (name_kept word).second → P names word
+-- A name looked up: where it stands among the held ones, if it does.
+pub record Placed (kept : List Name) (name : Name) (r : Option ℕ) : Type 0 where
+  pub inside : IfSome r (λ place. place < length kept)
+  pub is : (names : List Letters) (word : Letters) → Held names kept → is_name word ≡ true → name ≡ name_kept word
+      → r ≡ cond (known word names) (Some (position word names)) None
 
-  -- Whether name i is the word, as code tests it.
-  abbrev same_at_of : ℕ → Bool
-  same_at_of i = eqb (get_or firsts i 0) first && eqb (get_or seconds i 0) second
+-- The first name that is kept as the word is.
+module _ (word : Letters) (proper : is_name word ≡ true) where
+  same_as : Name → Bool
+  same_as held = same_name held (name_kept word)
 
-  same_at : (i : ℕ) → i < count → OfWord (λ names word. same_at_of i ≡ same word (get_or names i []))
-  same_at i h names word held proper one two =
-      let here = get_or names i [] in
-      rw (held.first i h, held.second i h, one, two)
-      (kept_same here word (name_at names held.proper i (omega (arith, held.counted))) proper ∙ same_turned here word)
+  place_kept : (names : List Letters) → are_names names ≡ true → position_or_len same_as (map name_kept names) ≡ position word names
+  unfolding position are_names same_as
+  place_kept [] all = refl
+  place_kept (first ∷ rest) all =
+      let named = and_left (is_name first) (are_names rest) all in
+      let later = place_kept rest (and_right (is_name first) (are_names rest) all) in
+      let test : same_name (name_kept first) (name_kept word) ≡ same word first =
+      kept_same first word named proper ∙ same_turned first word in
+      cases (same word first) (λ t. rw (test, t) refl) (λ t. rw (test, t, later) (rw one-add refl))
 
-  -- A lookup that has passed the first i names: none of them is the word.
-  pub record Passed (i : ℕ) : Type 0 where
-    pub inside : i ≤ count
-    pub is : OfWord (λ names word. position word names ≡ i + position word (drop i names))
+  place_told : (names : List Letters) (kept : List Name) → Held names kept
+      → cond (ltb (position_or_len same_as kept) (length kept)) (Some (position_or_len same_as kept)) None
+      ≡ cond (known word names) (Some (position word names)) None
+  place_told names kept held = rw (held.is, place_kept names held.proper, length-map, known_by_position word names) refl
 
-  pub passed_none : Passed 0
-  passed_none = record { inside = omega arith; is = λ names word held proper one two. omega arith }
+-- What the search for a name comes to.
 
-  -- The place of the word from name i on, by the test at name i.
-  place_from : (i : ℕ) (b : Bool) → i < count → same_at_of i ≡ b
-      → OfWord (λ names word. position word (drop i names) ≡ cond b 0 (suc (position word (drop (suc i) names))))
-  unfolding position
-  place_from i b h e names word held proper one two =
-      rw (drop-cons names i [] (omega (arith, held.counted)), ← same_at i h names word held proper one two, e) refl
+inside_some : (place size : ℕ) → IfSome (cond (ltb place size) (Some place) None) (λ p. p < size)
+inside_some place size = cases (ltb place size) (λ t. rw t (ltb-true place size t)) (λ t. rw t tt)
 
-  pub passed_next : (i : ℕ) → i < count → same_at_of i ≡ false → Passed i → Passed (i + 1)
-  passed_next i h e p = record {
-    inside = omega arith;
-    is = λ names word held proper one two.
-        rw add-one (omega (arith, p.is names word held proper one two, place_from i false h e names word held proper one two));
-  }
+pub placed : (kept : List Name) (name : Name) (r : Option ℕ)
+    → r ≡ cond (ltb (position_or_len (λ held. same_name held name) kept) (length kept)) (Some (position_or_len (λ held. same_name held name) kept)) None
+    → Placed kept name r
+unfolding same_as
+placed kept name r e = record {
+  inside = rw e (inside_some (position_or_len (λ held. same_name held name) kept) (length kept));
+  is = λ names word held proper named. rw (e, named) (place_told word proper names kept held);
+}
 
-  pub found : (name : Name) → first ≡ name.first → second ≡ name.second → (i : ℕ) → i < count → same_at_of i ≡ true → Passed i
-      → Placed firsts seconds count name i
-  found name one two i h e p = record {
-    inside = omega arith;
-    is = λ names word held proper kept.
-        let a = one ∙ ap (λ n. n.first) kept in
-        let b = two ∙ ap (λ n. n.second) kept in
-        omega (arith, p.is names word held proper a b, place_from i true h e names word held proper a b);
-  }
+-- A word is known where it has a place.
 
-  pub not_found : (name : Name) → first ≡ name.first → second ≡ name.second → Passed count → Placed firsts seconds count name count
-  unfolding position
-  not_found name one two p = record {
-    inside = omega arith;
-    is = λ names word held proper kept.
-        let none : drop count names ≡ [] = ap (λ n. drop n names) (sym held.counted) ∙ drop-length names in
-        let all = p.is names word held proper (one ∙ ap (λ n. n.first) kept) (two ∙ ap (λ n. n.second) kept) in
-        let nowhere : position word (drop count names) ≡ 0 = rw none refl in
-        omega arith;
-  }
+some_told : {A : Type 0} (b : Bool) (x : A) → is_some (cond b (Some x) None) ≡ b
+some_told true x = refl
+some_told false x = refl
 
--- A word is known where its place is one of the names'.
-pub known_by_place : {firsts seconds : List ℕ} {count : ℕ} {name : Name} {place : ℕ} → Placed firsts seconds count name place
-    → (names : List Letters) (word : Letters) → Held names firsts seconds count → is_name word ≡ true → name ≡ name_kept word
-    → known word names ≡ ltb place count
+pub known_by_place : {kept : List Name} {name : Name} {place : Option ℕ} → Placed kept name place
+    → (names : List Letters) (word : Letters) → Held names kept → is_name word ≡ true → name ≡ name_kept word
+    → is_some place ≡ known word names
 known_by_place placed names word held proper named =
-    rw (placed.is names word held proper named, ← held.counted) (known_by_position word names)
+    ap is_some (placed.is names word held proper named) ∙ some_told (known word names) (position word names)
 
 -- The net of a pin that is used.
 pub pin_net_lem : (names pins : List Letters) (p : ℕ) → p < length pins → pin_net names pins p ≡ position (get_or pins p []) names
 unfolding pin_net
 pin_net_lem names pins p h = rw (lt-ltb p (length pins) h) refl
-
--- All pins are known where each has a net.
-pub all_known_lem : (pins names : List Letters) → all_known pins names ≡ all_below (length pins) (λ p. ltb (pin_net names pins p) (length names))
-all_known_lem pins names =
-    all_known_by_position pins names ∙ all_same (length pins) _ _ (λ p h. ap (λ n. ltb n (length names)) (sym (pin_net_lem names pins p h)))

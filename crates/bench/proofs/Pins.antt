@@ -1,24 +1,27 @@
 -- Laws of pins looked up among the names that are held.
 -- Assumes nothing.
 use Prim.Native.Nat.{ℕ, zero, suc, ◌+◌, ◌≤◌, ◌<◌}
-use mathlib.Core.Bool.{true, cond}
+use mathlib.Core.Bool.{Bool, true, false, cond, ◌&&◌}
 use mathlib.Core.List.{List, [], ◌∷◌, map}
 use mathlib.Core.Path.{◌≡◌, refl, sym, ap, ◌∙◌}
+use native.Mathlib.Numerals.{add-one}
 use native.Mathlib.Omega.{arith}
 use lib.Dec.{ltb}
-use lib.ListN.{length, get_or, set, replicate, length-set, length-map, get_or-map}
-use lib.Seq.{get_or-set_same, get_or-set_other, ext_get_or}
+use lib.ListN.{length, get_or, set, drop, replicate, length-set, length-map, get_or-map, drop_of_length-le}
+use lib.Seq.{get_or-set_same, get_or-set_other, ext_get_or, drop-cons}
 use borrow.Author.Tests.{ltb-true, ltb-false, lt-ltb, le-ltb}
 use borrow.Table.Steps.{cases}
+use Rattle.std.proofs.Common.{Option, Some, None}
 use Rattle.laws.proofs.Numbers.{of_each}
 use Rattle.laws.proofs.Lists.{get_d_any, replicate_at}
-use Rattle.netlist.specs.Names.{Letters, are_names, position}
-use Rattle.netlist.specs.Kept.{name_kept, no_name, kept_at, four_kept}
-use Rattle.netlist.specs.declared.Line.{Line}
+use Rattle.netlist.specs.Names.{Letters, are_names, known, all_known, position}
+use Rattle.netlist.specs.Kept.{name_kept, names_kept, no_name, kept_at, four_kept}
 use Rattle.netlist.specs.declared.Name.{Name}
+use Rattle.netlist.specs.declared.Names.{Names}
 use Rattle.netlist.proofs.KnownWords.{name_at}
 use Rattle.bench.specs.Records.{pin_net}
-use Rattle.bench.specs.Held.{Held, Placed, PinsPlaced, four_nets}
+use Rattle.bench.proofs.Lookups.{Placed}
+use Rattle.bench.specs.Held.{Held, PinsPlaced, four_nets}
 
 -- Four values, each in its place.
 pub four_at_lem : {A : Type 0} (f : ℕ → A) (d : A) (p : ℕ) → p < 4 → get_or (f 0 ∷ f 1 ∷ f 2 ∷ f 3 ∷ []) p d ≡ f p
@@ -34,6 +37,16 @@ unfolding four_kept
 kept_at_lem pins d p h l =
     four_at_lem (kept_at pins) d p l ∙ get_d_any (map name_kept pins) p no_name (name_kept []) (rw length-map h) ∙ get_or-map name_kept pins p []
 
+-- All words from the p-th on are known where that one is and those after it are.
+pub known_at : (words given : List Letters) (p : ℕ) → p < length words
+    → all_known (drop p words) given ≡ (known (get_or words p []) given && all_known (drop (p + 1) words) given)
+unfolding all_known
+known_at words given p h = rw (drop-cons words p [] h, add-one p) refl
+
+pub known_end : (words given : List Letters) (p : ℕ) → length words ≤ p → all_known (drop p words) given ≡ true
+unfolding all_known
+known_end words given p h = let none : drop p words ≡ [] = drop_of_length-le words {i = p} h in rw none refl
+
 -- A number other than p is below p + 1 where it is below p.
 below_next : (q p : ℕ) → (q ≡ p → ⊥) → ltb q p ≡ ltb q (p + 1)
 below_next q p other =
@@ -41,45 +54,77 @@ below_next q p other =
     (λ t. t ∙ sym (lt-ltb q (p + 1) (omega (arith, ltb-true q p t))))
     (λ t. t ∙ sym (le-ltb q (p + 1) (omega (arith, ltb-false q p t))))
 
-module _ (firsts seconds : List ℕ) (count : ℕ) (kept : List Name) (used : ℕ) where
-  -- The first p pins were looked up. The nets of the others are still 0.
+-- What is told by a value that a test decides.
+
+pub told_some : {A : Type 0} {n m : A} (b : Bool) → Some n ≡ cond b (Some m) None → (b ≡ true) × (n ≡ m)
+told_some true e = (refl, cc)
+told_some false e = cc
+
+pub told_none : {A : Type 0} (m : A) (b : Bool) → None ≡ cond b (Some m) None → b ≡ false
+told_none m true e = cc
+told_none m false e = refl
+
+module _ (kept : List Name) (pins : Names) where
+  -- The first p pins were looked up, and are known, so that the others decide. Their nets are still 0.
   pub record PinsPassed (nets : List ℕ) (p : ℕ) : Type 0 where
-    pub inside : p ≤ used
     pub long : length nets ≡ 4
-    pub is : (names pins : List Letters) → Held names firsts seconds count → are_names pins ≡ true → used ≡ length pins
-        → kept ≡ four_kept pins → (q : ℕ) → get_or nets q 0 ≡ cond (ltb q p) (position (get_or pins q []) names) 0
+    pub known_so_far : (names words : List Letters) → Held names kept → are_names words ≡ true → pins ≡ names_kept words
+        → all_known words names ≡ all_known (drop p words) names
+    pub is : (names words : List Letters) → Held names kept → are_names words ≡ true → pins ≡ names_kept words
+        → (q : ℕ) → get_or nets q 0 ≡ cond (ltb q p) (position (get_or words q []) names) 0
 
   pub pins_none : PinsPassed (replicate 4 0) 0
   pins_none = record {
-    inside = omega arith;
     long = refl;
-    is = λ names pins held proper all same q. replicate_at 4 q 0 ∙ rw (le-ltb q 0 (omega arith)) refl;
+    known_so_far = λ names words held proper same. refl;
+    is = λ names words held proper same q. replicate_at 4 q 0 ∙ rw (le-ltb q 0 (omega arith)) refl;
   }
 
-  pub pins_next : (nets : List ℕ) (p r : ℕ) (d : Name) → used ≤ 4 → p < used → Placed firsts seconds count (get_or kept p d) r
-      → PinsPassed nets p → PinsPassed (set nets p r) (p + 1)
-  pins_next nets p r d few h placed w = record {
-    inside = omega arith;
-    long = length-set nets p r ∙ w.long;
-    is = λ names pins held proper all same. of_each
-        (λ q. get_or (set nets p r) q 0 ≡ cond (ltb q (p + 1)) (position (get_or pins q []) names) 0)
-        p
-        (let used_pin : p < length pins = omega arith in
-        let name = ap (λ k. get_or k p d) same ∙ kept_at_lem pins d p used_pin (omega arith) in
-        get_or-set_same nets p r 0 (omega (arith, w.long))
-        ∙ placed.is names (get_or pins p []) held (name_at pins proper p used_pin) name
-        ∙ rw (lt-ltb p (p + 1) (omega arith)) refl)
-        (λ q other. get_or-set_other nets p q r 0 other
-        ∙ w.is names pins held proper all same q
-        ∙ ap (λ b. cond b (position (get_or pins q []) names) 0) (below_next q p other));
-  }
+  module _ (few : pins.used ≤ 4) (nets : List ℕ) (p : ℕ) (h : p < pins.used) (d : Name) {r : Option ℕ}
+      (place : Placed kept (get_or pins.names p d) r) (w : PinsPassed nets p) where
+    -- What the lookup of pin p says.
+    pin_at : (names words : List Letters) → Held names kept → are_names words ≡ true → pins ≡ names_kept words
+        → (r ≡ cond (known (get_or words p []) names) (Some (position (get_or words p []) names)) None)
+        × (all_known words names ≡ (known (get_or words p []) names && all_known (drop (p + 1) words) names))
+    pin_at names words held proper same =
+        let used_pin : p < length words = omega (arith, ap (λ pins. pins.used) same) in
+        let name = ap (λ pins. get_or pins.names p d) same ∙ kept_at_lem words d p used_pin (omega arith) in (
+          place.is names (get_or words p []) held (name_at words proper p used_pin) name,
+          w.known_so_far names words held proper same ∙ known_at words names p used_pin,
+        )
 
-  pub pins_placed : (line : Line) (nets : List ℕ) → line.used ≡ used → line.pins ≡ kept → PinsPassed nets used
-      → PinsPlaced firsts seconds count line nets
+    pub pins_unknown : r ≡ None → PinsPlaced kept pins None
+    pins_unknown e names words held proper same =
+        let told = pin_at names words held proper same in
+        let unknown = told_none (position (get_or words p []) names) (known (get_or words p []) names) (sym e ∙ told.0) in
+        rw (told.1, unknown) refl
+
+    pub pins_next : (net : ℕ) → r ≡ Some net → PinsPassed (set nets p net) (p + 1)
+    pins_next net e = record {
+      long = length-set nets p net ∙ w.long;
+      known_so_far = λ names words held proper same.
+          let told = pin_at names words held proper same in
+          let found = told_some (known (get_or words p []) names) (sym e ∙ told.0) in
+          told.1 ∙ ap (λ b. b && all_known (drop (p + 1) words) names) found.0;
+      is = λ names words held proper same. of_each
+          (λ q. get_or (set nets p net) q 0 ≡ cond (ltb q (p + 1)) (position (get_or words q []) names) 0)
+          p
+          (let told = pin_at names words held proper same in
+          let found = told_some (known (get_or words p []) names) (sym e ∙ told.0) in
+          get_or-set_same nets p net 0 (omega (arith, w.long)) ∙ found.1 ∙ rw (lt-ltb p (p + 1) (omega arith)) refl)
+          (λ q other. get_or-set_other nets p q net 0 other
+          ∙ w.is names words held proper same q
+          ∙ ap (λ b. cond b (position (get_or words q []) names) 0) (below_next q p other));
+    }
+
+  pub pins_placed : (nets : List ℕ) → PinsPassed nets pins.used → PinsPlaced kept pins (Some nets)
   unfolding four_nets pin_net
-  pins_placed line nets u k w names pins held proper all same =
-      let whole : used ≡ length pins = sym u ∙ all in
-      let each = w.is names pins held proper whole (sym k ∙ same) in
-      ext_get_or 0 nets (four_nets names pins) w.long
-      (λ q h. each q ∙ ap (λ n. cond (ltb q n) (position (get_or pins q []) names) 0) whole
-      ∙ sym (four_at_lem (pin_net names pins) 0 q (rw w.long at h)))
+  pins_placed nets w names words held proper same =
+      let whole : pins.used ≡ length words = ap (λ pins. pins.used) same in
+      let each = w.is names words held proper same in
+      let are : nets ≡ four_nets names words =
+      ext_get_or 0 nets (four_nets names words) w.long
+      (λ q h. each q ∙ ap (λ n. cond (ltb q n) (position (get_or words q []) names) 0) whole
+      ∙ sym (four_at_lem (pin_net names words) 0 q (rw w.long at h))) in
+      let all = w.known_so_far names words held proper same ∙ known_end words names pins.used (omega arith) in
+      rw (all, are) refl

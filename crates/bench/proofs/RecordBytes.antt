@@ -1,12 +1,10 @@
 -- Laws of the bytes of records: how code that makes and stores one byte after the other comes to them.
 -- Assumes nothing.
-use Prim.Native.Nat.{ℕ, ◌+◌, ◌-◌, ◌*◌, ◌/◌, ◌%◌, ◌≤◌}
-use mathlib.Core.List.{List, [], ◌∷◌, ◌++◌}
-use mathlib.Core.Path.{◌≡◌, ap, sym, ◌∙◌}
+use Prim.Native.Nat.{ℕ, ◌+◌, ◌-◌, ◌*◌, ◌/◌, ◌%◌}
+use mathlib.Core.List.{List, [], ◌∷◌}
+use mathlib.Core.Path.{◌≡◌}
 use native.Mathlib.Nat.{add-zero}
-use native.Mathlib.Omega.{arith}
-use lib.ListN.{length, get_or, take}
-use lib.Seq.{take-length, paste, take-paste}
+use lib.ListN.{get_or}
 use Rattle.bench.specs.Records.{gate_record}
 
 -- A gate's record, from the low and the high byte of each net.
@@ -19,12 +17,3 @@ pub gate_bytes : (list : List ℕ) (kind used : ℕ) (net : ℕ → ℕ) (l0 h0 
     ≡ gate_record list kind used net
 unfolding gate_record
 gate_bytes list kind used net l0 h0 l1 h1 l2 h2 l3 h3 a b c d e f g h = cc (add-zero (8 * (kind - 2)))
-
--- A record stored after those made so far.
-pub record_stored : (given made bytes : List ℕ) (count i : ℕ) → 20 * count ≤ length given → length bytes ≡ 20 → i ≡ 20
-    → made ≡ paste given (20 * count) bytes i → take (20 * (count + 1)) made ≡ take (20 * count) given ++ bytes
-record_stored given made bytes count i room long all e =
-    let next : 20 * (count + 1) ≡ 20 * count + 20 = omega arith in
-    let pasted : made ≡ paste given (20 * count) bytes 20 = rw all at e in
-    let whole : take 20 bytes ≡ bytes = ap (λ n. take n bytes) (sym long) ∙ take-length bytes in
-    rw (next, pasted) (take-paste given (20 * count) bytes 20 room (omega arith) ∙ ap (λ b. take (20 * count) given ++ b) whole)

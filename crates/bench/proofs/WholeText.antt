@@ -4,10 +4,10 @@ use Prim.Native.Nat.{ℕ, ◌+◌, ◌*◌, ◌/◌, ◌%◌, ◌≤◌, ◌<◌
 use mathlib.Core.Bool.{true, false}
 use mathlib.Core.List.{List, [], ◌∷◌, ◌++◌, append-nil}
 use mathlib.Core.Logic.{⊎_elim}
-use mathlib.Core.Path.{◌≡◌, refl, sym, ap, subst, ◌∙◌}
+use mathlib.Core.Path.{◌≡◌, refl, sym, ap, ◌∙◌}
 use native.Mathlib.Nat.{eq-or-lt_of_le}
 use native.Mathlib.Omega.{arith}
-use lib.ListN.{length, take, drop, length-append}
+use lib.ListN.{length, drop, length-append}
 use lib.Seq.{length-take-le}
 use borrow.Author.Tests.{eq-eqb, lt-leb, leb-true, leb-false}
 use Rattle.block.specs.Record.{File}
@@ -15,14 +15,13 @@ use Rattle.block.specs.Verdict.{verdict, refusal}
 use Rattle.block.specs.Refusals.{file_checks, read_checks}
 use Rattle.block.specs.declared.Refusal.{Refusal}
 use Rattle.block.specs.declared.Verdict.TheVariants.{Accepted, Refused}
-use Rattle.block.proofs.Verdicts.{all_passed, refused_first, accepted_first}
+use Rattle.block.proofs.Verdicts.{apart, all_passed, refused_first, accepted_first}
 use Rattle.netlist.specs.Forms.{Form, forms_of, names_of}
 use Rattle.bench.specs.declared.Later.{Later}
-use Rattle.bench.specs.declared.Progress.{Progress}
-use Rattle.bench.specs.declared.Taken.TheVariants as taken
+use Rattle.bench.specs.declared.Table.{Table}
 use Rattle.bench.specs.Checks.{lines_from}
 use Rattle.bench.specs.Records.{records_from}
-use Rattle.bench.specs.Held.{Held, LinesTaken, JudgedLater, TextTaken}
+use Rattle.bench.specs.Held.{held_names, made_records, LinesTaken, JudgedLater, TextTaken}
 use Rattle.bench.proofs.Lines.{no_forms}
 use Rattle.bench.proofs.LineAmong.{records_length}
 
@@ -36,76 +35,59 @@ no_bytes : (l : List ℕ) → length l ≡ 0 → l ≡ []
 no_bytes [] e = refl
 no_bytes (x ∷ l) e = absurd (omega arith)
 
-module _ (text list made : List ℕ) where
+module _ (text list : List ℕ) (table : Table) where
   abbrev records : File
   records = records_from list [] (forms_of text)
 
   refused_with_lem : (q : Refusal) → verdict (lines_from 1 [] false (forms_of text) ++ read_checks records) ≡ Refused q
-      → TextTaken text list made (taken.Refused q)
-  refused_with_lem q e = record {
-    refused = λ r told. let same : q ≡ r = cc in e ∙ ap Refused same;
-    accepted = λ count told. absurd (let z : ◌≡◌ {A = ℕ} 0 1 = cc in omega arith);
-  }
+      → TextTaken text list table (Refused q)
+  refused_with_lem q e = record { refused = λ r told. e ∙ told; accepted = λ told. apart _ told }
 
-  pub refused_by_lines : (q : Refusal) → verdict (lines_from 1 [] false (forms_of text)) ≡ Refused q
-      → TextTaken text list made (taken.Refused q)
+  pub refused_by_lines : (q : Refusal) → verdict (lines_from 1 [] false (forms_of text)) ≡ Refused q → TextTaken text list table (Refused q)
   refused_by_lines q e = refused_with_lem q (refused_first _ _ q e)
 
-  accepted_with : (count : ℕ) → verdict (lines_from 1 [] false (forms_of text)) ≡ Accepted → records ≡ take (20 * count) made → count ≤ 1024
-      → TextTaken text list made (taken.Records count)
-  accepted_with count e is few = record {
-    refused = λ q told. absurd (let z : ◌≡◌ {A = ℕ} 0 1 = cc in omega arith);
-    accepted = λ n told. let same : count ≡ n = cc in
-        (e, is ∙ ap (λ k. take (20 * k) made) same, subst (λ k. k ≤ 1024) same few);
-  }
+  accepted_with : verdict (lines_from 1 [] false (forms_of text)) ≡ Accepted → records ≡ made_records table → TextTaken text list table Accepted
+  accepted_with e is = record { refused = λ q told. apart _ (sym told); accepted = λ told. (e, is) }
 
 -- Lines are left only where there are 1,024 records.
 pub all_full : {count at end : ℕ} → count ≤ 1024 → (count < 1024 → at ≡ end) → (at ≡ end → ⊥) → count ≡ 1024
 all_full few ended left = ⊎_elim (λ e. e) (λ fewer. absurd (left (ended fewer))) (eq-or-lt_of_le few)
 
-module _ {text list firsts seconds made : List ℕ} {progress : Progress} (so_far : LinesTaken text list firsts seconds made progress) where
+module _ {text list : List ℕ} {table : Table} {at number : ℕ} (so_far : LinesTaken text list table at number) where
   -- All lines are taken.
-  pub text_ended : progress.at ≡ length text → TextTaken text list made (taken.Records progress.count)
+  pub text_ended : at ≡ length text → TextTaken text list table Accepted
   unfolding lines_from records_from
   text_ended e =
-      let none : forms_of (drop progress.at text) ≡ [] = no_forms text progress.at (omega arith) in
-      accepted_with text list made progress.count
-      (so_far.judged ∙ ap (λ forms. verdict (lines_from progress.number so_far.names progress.gates forms)) none ∙ sym all_passed)
-      (so_far.made ∙ ap (λ forms. take (20 * progress.count) made ++ records_from list so_far.names forms) none
-      ∙ append-nil (take (20 * progress.count) made))
-      so_far.few
+      let nothing : forms_of (drop at text) ≡ [] = no_forms text at (omega arith) in
+      accepted_with text list table
+      (so_far.judged ∙ ap (λ forms. verdict (lines_from number so_far.names table.gates forms)) nothing ∙ sym all_passed)
+      (so_far.made ∙ ap (λ forms. made_records table ++ records_from list so_far.names forms) nothing ∙ append-nil (made_records table))
 
   -- Lines are left after the 1,024th record, and are judged.
-  module _ {later : Later} (full : progress.count ≡ 1024) (sized : length made ≡ 20480)
-      (rest : JudgedLater (forms_of (drop progress.at text)) firsts seconds progress.number progress.gates later) where
+  module _ {later : Later} (full : table.count ≡ 1024) (sized : length table.records ≡ 20480)
+      (rest : JudgedLater (forms_of (drop at text)) (held_names table) number table.gates later) where
     abbrev left : List Form
-    left = forms_of (drop progress.at text)
-
-    held : Held so_far.names firsts seconds 1024
-    held = subst (λ n. Held so_far.names firsts seconds n) full so_far.held
+    left = forms_of (drop at text)
 
     lines_judged : verdict (lines_from 1 [] false (forms_of text)) ≡ later.verdict
-    lines_judged = so_far.judged ∙ sym (rest so_far.names held).judged
+    lines_judged = so_far.judged ∙ sym (rest so_far.names so_far.held).judged
 
-    all_made : records_from list [] (forms_of text) ≡ take 20480 made ++ records_from list so_far.names left
-    all_made = so_far.made ∙ ap (λ n. take (20 * n) made ++ records_from list so_far.names left) full
+    pub later_refused : (q : Refusal) → later.verdict ≡ Refused q → TextTaken text list table (Refused q)
+    later_refused q e = refused_by_lines text list table q (lines_judged ∙ e)
 
-    pub later_refused : (q : Refusal) → later.verdict ≡ Refused q → TextTaken text list made (taken.Refused q)
-    later_refused q e = refused_by_lines text list made q (lines_judged ∙ e)
-
-    pub later_gives : later.verdict ≡ Accepted → later.more ≡ true → TextTaken text list made (taken.Refused (refusal 2 0))
+    pub later_gives : later.verdict ≡ Accepted → later.more ≡ true → TextTaken text list table (Refused (refusal 2 0))
     later_gives e more =
-        let some : 1 ≤ length (names_of left) = leb-true _ _ (sym ((rest so_far.names held).more e) ∙ more) in
-        let first : length (take 20480 made) ≡ 20480 = length-take-le 20480 made (omega arith) in
+        let some : 1 ≤ length (names_of left) = leb-true _ _ (sym ((rest so_far.names so_far.held).more e) ∙ more) in
+        let first : length (made_records table) ≡ 20480 = length-take-le (20 * table.count) table.records (omega arith) ∙ omega arith in
         let all : length (records_from list [] (forms_of text)) ≡ 20 * (1024 + length (names_of left)) =
-        ap length all_made ∙ length-append (take 20480 made) _ ∙ omega (arith, records_length list so_far.names left) in
-        refused_with_lem text list made (refusal 2 0)
+        ap length so_far.made ∙ length-append (made_records table) _ ∙ omega (arith, records_length list so_far.names left) in
+        refused_with_lem text list table (refusal 2 0)
         (accepted_first _ _ (lines_judged ∙ e)
         ∙ too_many (records_from list [] (forms_of text)) (1024 + length (names_of left)) all (omega arith))
 
-    pub later_gives_none : later.verdict ≡ Accepted → later.more ≡ false → TextTaken text list made (taken.Records 1024)
+    pub later_gives_none : later.verdict ≡ Accepted → later.more ≡ false → TextTaken text list table Accepted
     later_gives_none e more =
-        let none : length (names_of left) < 1 = leb-false _ _ (sym ((rest so_far.names held).more e) ∙ more) in
+        let few : length (names_of left) < 1 = leb-false _ _ (sym ((rest so_far.names so_far.held).more e) ∙ more) in
         let nothing : records_from list so_far.names left ≡ [] = no_bytes _ (omega (arith, records_length list so_far.names left)) in
-        accepted_with text list made 1024 (lines_judged ∙ e)
-        (all_made ∙ ap (λ l. take 20480 made ++ l) nothing ∙ append-nil (take 20480 made)) (omega arith)
+        accepted_with text list table (lines_judged ∙ e)
+        (so_far.made ∙ ap (λ l. made_records table ++ l) nothing ∙ append-nil (made_records table))

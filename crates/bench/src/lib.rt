@@ -8,10 +8,12 @@ ghost use Rattle.bench.specs.Checks.{size_checks, rows_from, row_in_range};
 ghost use Rattle.bench.specs.Bench.{Handed, text_checks, bench_records, Benched};
 
 use block::{ReadAnswer, Refusal, Verdict};
+use netlist::Name;
 
 mod lookup;
 mod making;
 mod overflow;
+mod tables;
 mod walk;
 
 // What Bench answers: how many records there are, or the refusal.
@@ -21,30 +23,33 @@ pub enum BenchAnswer {
     Refused(Refusal),
 }
 
-// What becomes of the lines: how many records they give, 1,024 at most, or the refusal.
-#[derive(Clone, Copy)]
-pub enum Taken {
-    Records(usize),
-    Refused(Refusal),
+// The records of the lines taken so far: their names and their bytes, how many they are, and whether one of them is a gate's.
+#[derive(Drop)]
+pub struct Table {
+    pub names: [Name; 1024],
+    pub records: [u8; 20480],
+    pub count: usize,
+    pub gates: bool,
+    ghost inside: { count ≤ 1024 },
+    ghost sized: { length records ≡ 20480 },
 }
 
-// What taking a line came to: its verdict, how many records it gives, 0 or 1, and whether it is a gate.
-#[derive(Clone, Copy)]
-pub struct Step {
-    pub verdict: Verdict,
-    pub gives: usize,
-    pub gate: bool,
-}
-
-// How far the lines were taken: the verdict on them, the byte and the number of the next line, how many records there are, and whether
-// one of them is a gate.
+// How far the lines were taken: the verdict on them, and the byte and the number of the next line.
 #[derive(Clone, Copy)]
 pub struct Progress {
     pub verdict: Verdict,
     pub at: usize,
     pub number: usize,
-    pub count: usize,
-    pub gates: bool,
+}
+
+// What a line after the 1,024th record is judged by: the names held, and the first `lines` lines of the text from byte `from` on.
+#[derive(Clone, Copy)]
+pub struct Earlier<'a> {
+    pub names: &'a [Name],
+    pub text: &'a [u8],
+    pub from: usize,
+    pub lines: usize,
+    ghost inside: { from ≤ length text.now },
 }
 
 // What later lines come to: their verdict, and whether one of them gives a record.
@@ -61,10 +66,10 @@ fn row_in_range(list: &[u8], row: usize) -> bool
 {
     let at = 8 * row;
     block::gate_in_range(
-        list[at] as usize,
-        list[at + 1] as usize,
-        list[at + 2] as usize,
-        list[at + 3] as usize,
+        usize::from(list[at]),
+        usize::from(list[at + 1]),
+        usize::from(list[at + 2]),
+        usize::from(list[at + 3]),
     )
 }
 
@@ -73,15 +78,13 @@ fn check_rows(list: &[u8]) -> Verdict
     requires { length list.now ≡ 64 }
     ensures { result ≡ verdict (rows_from list.now 0 8) }
 {
-    let mut row: usize = 0;
-    while row < 8 {
+    for row in 0..8 {
         if !row_in_range(list, row) {
             return Verdict::Refused(Refusal {
                 number: 9,
                 place: row as u64,
             });
         }
-        row += 1;
     }
     Verdict::Accepted
 }
@@ -113,18 +116,16 @@ fn hand_over(made: &[u8], records: &mut [u8]) -> BenchAnswer
     }
 }
 
-// Takes the lines of a text and makes their records in arrays of its own, so that the lent buffer is written only once every check has
+// Takes the lines of a text and makes their records in a table of its own, so that the lent buffer is written only once every check has
 // passed.
 fn make(text: &[u8], list: &[u8], records: &mut [u8]) -> BenchAnswer
     requires { (length list.now ≡ 64) × (20480 ≤ length records.old) }
     ensures { Handed (verdict (text_checks (record { text = text.now; list = list.now; records = records.old }))) (bench_records (record { text = text.now; list = list.now; records = records.old })) records.old result records.new }
 {
-    let mut firsts = [0u64; 1024];
-    let mut seconds = [0u64; 1024];
-    let mut made = [0u8; 20480];
-    match walk::take_text(text, list, &mut firsts, &mut seconds, &mut made) {
-        Taken::Refused(r) => BenchAnswer::Refused(r),
-        Taken::Records(count) => hand_over(&made[..20 * count], records),
+    let mut table = Table::new();
+    match walk::take_text(text, list, &mut table) {
+        Verdict::Refused(r) => BenchAnswer::Refused(r),
+        Verdict::Accepted => hand_over(table.made(), records),
     }
 }
 

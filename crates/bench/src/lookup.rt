@@ -1,63 +1,27 @@
 // Names looked up among those of the records so far.
-ghost use Rattle.std.specs.Prelude.{◌≡◌, ◌≤◌, ◌<◌, ltb, length, get_or, set};
-ghost use Rattle.laws.specs.Below.{all_below};
-ghost use Rattle.bench.specs.Held.{Placed, PinsPlaced};
+ghost use Rattle.std.specs.Prelude.{◌≡◌, ◌≤◌, length};
+ghost use Rattle.std.specs.List.{position};
+ghost use Rattle.netlist.specs.Kept.{same_name};
+ghost use Rattle.bench.specs.Held.{PinsPlaced};
 
-use netlist::{Line, Name};
+use netlist::{Name, Names};
 
-// The number of the record that has a name, of the first `count`; `count` where none has it.
-pub fn position(firsts: &[u64; 1024], seconds: &[u64; 1024], count: usize, name: Name) -> usize
-    requires { count ≤ 1024 }
-    ensures { Placed firsts.now seconds.now count name result }
+// The number of the record that has a name, if any.
+pub fn position(names: &[Name], name: Name) -> Option<usize>
+    ensures { result ≡ position (λ held. same_name held name) names.now }
 {
-    let first = name.first;
-    let second = name.second;
-    let mut i: usize = 0;
-    while i < count {
-        if (firsts[i] == first) & (seconds[i] == second) {
-            return i;
-        }
-        i += 1;
-    }
-    count
+    names.iter().position(|held| *held == name)
 }
 
-// The nets of a gate's pins, 0 for an unused one, and `count` for an unknown one.
-pub fn pin_nets(line: Line, firsts: &[u64; 1024], seconds: &[u64; 1024], count: usize) -> [u16; 4]
-    requires { (count ≤ 1024) × (line.used ≤ 4) }
-    ensures { PinsPlaced firsts.now seconds.now count line result }
+// The nets of a gate's pins, 0 for an unused one; none where a pin is unknown.
+pub fn pin_nets(names: &[Name], pins: Names) -> Option<[u16; 4]>
+    requires { (length names.now ≤ 1024) × (pins.used ≤ 4) }
+    ensures { PinsPlaced names.now pins result }
 {
     let mut nets = [0u16; 4];
-    let pins = line.pins;
-    let used = line.used;
-    let mut p: usize = 0;
-    while p < used {
-        nets[p] = position(firsts, seconds, count, pins[p]) as u16;
-        p += 1;
+    for p in 0..pins.used {
+        let net = position(names, pins.names[p])?;
+        nets[p] = net as u16;
     }
-    nets
-}
-
-// Whether all used pins were found.
-pub fn all_found(nets: [u16; 4], used: usize, count: usize) -> bool
-    requires { used ≤ 4 }
-    ensures { result ≡ all_below used (λ p. ltb (get_or nets p 0) count) }
-{
-    let mut p: usize = 0;
-    while p < used {
-        if count <= nets[p] as usize {
-            return false;
-        }
-        p += 1;
-    }
-    true
-}
-
-// Puts a name after the first `count`. The arrays come as slices, since to lend one as a slice tells its length.
-pub fn hold(firsts: &mut [u64], seconds: &mut [u64], count: usize, name: Name)
-    requires { (count < length firsts.old) × (count < length seconds.old) }
-    ensures { (firsts.new ≡ set firsts.old count name.first) × (seconds.new ≡ set seconds.old count name.second) }
-{
-    firsts[count] = name.first;
-    seconds[count] = name.second;
+    Some(nets)
 }

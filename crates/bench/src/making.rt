@@ -1,47 +1,44 @@
 // Records made from lines.
-ghost use Rattle.std.specs.Prelude.{cond, ◌++◌, ◌≡◌, ◌+◌, ◌*◌, ◌/◌, ◌%◌, ◌≤◌, ◌<◌, eqb, length, get_or, take};
+ghost use Rattle.std.specs.Prelude.{◌≡◌, ◌/◌, ◌%◌, ◌≤◌, ◌∷◌, [], length, get_or};
 ghost use Rattle.bench.specs.Records.{input_record, gate_record};
 
 // The record of an input, which allows all four excitations.
-fn input_record() -> [u8; 20]
+pub fn input_record() -> [u8; 20]
     ensures { result ≡ input_record }
 {
     [1, 0, 0, 0, 0, 0, 0, 0, 0, 0, 0, 0, 0, 0, 0, 0, 0, 0, 15, 0]
 }
 
-// The low byte of a net's number.
-fn low(net: u16) -> u8
-    ensures { result ≡ net % 256 }
+// The two bytes of a net's number, the low one first.
+fn bytes_of(net: u16) -> [u8; 2]
+    ensures { result ≡ net % 256 ∷ net / 256 ∷ [] }
 {
-    (net % 256) as u8
-}
-
-// The high byte of a net's number.
-fn high(net: u16) -> u8
-    ensures { result ≡ net / 256 }
-{
-    (net / 256) as u8
+    net.to_le_bytes()
 }
 
 // The record of a gate, with the row of its kind.
-fn gate_record(list: &[u8], kind: usize, used: usize, nets: [u16; 4]) -> [u8; 20]
+pub fn gate_record(list: &[u8], kind: usize, used: usize, nets: [u16; 4]) -> [u8; 20]
     requires { (length list.now ≡ 64) × (2 ≤ kind) × (kind ≤ 9) × (used ≤ 4) }
     ensures { result ≡ gate_record list.now kind used (λ p. get_or nets p 0) }
 {
     let row = 8 * (kind - 2);
+    let first = bytes_of(nets[0]);
+    let second = bytes_of(nets[1]);
+    let third = bytes_of(nets[2]);
+    let fourth = bytes_of(nets[3]);
     [
         kind as u8,
         list[row],
         list[row + 1],
         used as u8,
-        low(nets[0]),
-        high(nets[0]),
-        low(nets[1]),
-        high(nets[1]),
-        low(nets[2]),
-        high(nets[2]),
-        low(nets[3]),
-        high(nets[3]),
+        first[0],
+        first[1],
+        second[0],
+        second[1],
+        third[0],
+        third[1],
+        fourth[0],
+        fourth[1],
         list[row + 2],
         list[row + 3],
         list[row + 4],
@@ -51,28 +48,4 @@ fn gate_record(list: &[u8], kind: usize, used: usize, nets: [u16; 4]) -> [u8; 20
         0,
         0,
     ]
-}
-
-// The record of an input, kind 1, or of a gate.
-pub fn record(list: &[u8], kind: usize, used: usize, nets: [u16; 4]) -> [u8; 20]
-    requires { (length list.now ≡ 64) × (1 ≤ kind) × (kind ≤ 9) × (used ≤ 4) }
-    ensures { result ≡ cond (eqb kind 1) input_record (gate_record list.now kind used (λ p. get_or nets p 0)) }
-{
-    if kind == 1 {
-        return input_record();
-    }
-    gate_record(list, kind, used, nets)
-}
-
-// Puts a record after those made so far.
-pub fn store(made: &mut [u8], count: usize, bytes: [u8; 20])
-    requires { (length made.old ≡ 20480) × (count < 1024) }
-    ensures { take (20 * (count + 1)) made.new ≡ take (20 * count) made.old ++ bytes }
-{
-    let from = 20 * count;
-    let mut i: usize = 0;
-    while i < 20 {
-        made[from + i] = bytes[i];
-        i += 1;
-    }
 }

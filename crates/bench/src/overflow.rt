@@ -1,137 +1,111 @@
-// The lines after the 1,024th record. No array has their names: they are looked up in the text itself. A text in which one of them gives
+// The lines after the 1,024th record. No table has their names: they are looked up in the text itself. A text in which one of them gives
 // a record is refused in any case.
-ghost use Rattle.std.specs.Prelude.{◌≡◌, false, ◌+◌, ◌≤◌, length, take, drop};
+ghost use Rattle.std.specs.Prelude.{◌≡◌, false, ◌+◌, ◌≤◌, length, drop};
 ghost use Rattle.block.specs.Verdict.{refusal};
 ghost use Rattle.block.specs.declared.Verdict.TheVariants.{Refused};
 ghost use Rattle.netlist.specs.Forms.{forms_of};
-ghost use Rattle.bench.specs.Held.{GivenIn, KnownIn, AllKnownIn, JudgedIn, JudgedLater};
+ghost use Rattle.bench.specs.Held.{gives, forms_before, FewPins, GivenIn, KnownIn, AllKnownIn, JudgedIn, JudgedLater};
 
 use super::lookup;
-use crate::Later;
+use crate::{Earlier, Later};
 use block::{Refusal, Verdict};
-use netlist::{Line, Name};
+use netlist::{Line, Name, Names};
 
-// Whether one of the first `lines` lines from byte `from` on gives a name.
-fn given_in(text: &[u8], from: usize, lines: usize, name: Name) -> bool
-    requires { from ≤ length text.now }
-    ensures { GivenIn (take lines (forms_of (drop from text.now))) name result }
+// Whether a line gives a name.
+fn gives(line: Option<Line>, name: Name) -> bool
+    ensures { result ≡ gives line name }
 {
-    let mut at = from;
-    let mut passed: usize = 0;
-    while (at < text.len()) & (passed < lines) {
-        let span = netlist::line_at(text, at);
-        let end = span.end;
-        let line = netlist::read_line(&text[at..end]);
-        if (line.kind != 0) & netlist::same_name(line.name, name) {
-            return true;
+    match line {
+        Some(Line::Input(given)) => given == name,
+        Some(Line::Gate(gate)) => gate.name == name,
+        Some(Line::Nothing) | None => false,
+    }
+}
+
+impl Earlier<'_> {
+    // Whether one of the lines gives a name.
+    fn gives(&self, name: Name) -> bool
+        ensures { GivenIn (forms_before self.now) name result }
+    {
+        let mut at = self.from;
+        for passed in 0..self.lines {
+            if self.text.len() <= at {
+                return false;
+            }
+            let span = netlist::line_at(self.text, at);
+            if gives(netlist::read_line(&self.text[at..span.end]), name) {
+                return true;
+            }
+            at = span.next;
         }
-        at = span.next;
-        passed += 1;
+        false
     }
-    false
-}
 
-// Whether a name is known: held, or given by one of the first `lines` lines from byte `from` on.
-fn known(
-    text: &[u8],
-    from: usize,
-    lines: usize,
-    firsts: &[u64; 1024],
-    seconds: &[u64; 1024],
-    name: Name,
-) -> bool
-    requires { from ≤ length text.now }
-    ensures { KnownIn (take lines (forms_of (drop from text.now))) firsts.now seconds.now name result }
-{
-    if lookup::position(firsts, seconds, 1024, name) < 1024 {
-        return true;
+    // Whether a name is known: held, or given by one of the lines.
+    fn knows(&self, name: Name) -> bool
+        ensures { KnownIn (forms_before self.now) self.now.names.now name result }
+    {
+        lookup::position(self.names, name).is_some() || self.gives(name)
     }
-    given_in(text, from, lines, name)
-}
 
-// Whether all pins of a gate are known.
-fn pins_known(
-    text: &[u8],
-    from: usize,
-    lines: usize,
-    firsts: &[u64; 1024],
-    seconds: &[u64; 1024],
-    line: Line,
-) -> bool
-    requires { (from ≤ length text.now) × (line.used ≤ 4) }
-    ensures { AllKnownIn (take lines (forms_of (drop from text.now))) firsts.now seconds.now line result }
-{
-    let pins = line.pins;
-    let used = line.used;
-    let mut p: usize = 0;
-    while p < used {
-        if !known(text, from, lines, firsts, seconds, pins[p]) {
-            return false;
+    // Whether all pins of a gate are known.
+    fn knows_all(&self, pins: Names) -> bool
+        requires { pins.used ≤ 4 }
+        ensures { AllKnownIn (forms_before self.now) self.now.names.now pins result }
+    {
+        for p in 0..pins.used {
+            if !self.knows(pins.names[p]) {
+                return false;
+            }
         }
-        p += 1;
+        true
     }
-    true
-}
 
-// Judges a line that has passed check 17 by itself, given the lines before it.
-fn judge(
-    text: &[u8],
-    from: usize,
-    lines: usize,
-    firsts: &[u64; 1024],
-    seconds: &[u64; 1024],
-    line: Line,
-    number: usize,
-    gates: bool,
-) -> Verdict
-    requires { (from ≤ length text.now) × (line.used ≤ 4) }
-    ensures { JudgedIn (take lines (forms_of (drop from text.now))) firsts.now seconds.now line number gates result }
-{
-    if line.kind == 0 {
-        return Verdict::Accepted;
+    // Judges a line that has passed check 17 by itself.
+    fn judge(&self, line: Line, number: usize, gates: bool) -> Verdict
+        requires { FewPins line }
+        ensures { JudgedIn (forms_before self.now) self.now.names.now line number gates result }
+    {
+        let place = number as u64;
+        match line {
+            Line::Nothing => Verdict::Accepted,
+            Line::Input(name) => {
+                let new = !self.knows(name);
+                Verdict::Accepted
+                    .also(17, place, !gates)
+                    .also(18, place, new)
+            }
+            Line::Gate(gate) => {
+                let new = !self.knows(gate.name);
+                let found = self.knows_all(gate.pins);
+                Verdict::Accepted.also(18, place, new & found)
+            }
+        }
     }
-    let input = line.kind == 1;
-    let place = number as u64;
-    let new = !known(text, from, lines, firsts, seconds, line.name);
-    let found = pins_known(text, from, lines, firsts, seconds, line);
-    Verdict::Accepted
-        .also(17, place, !(input & gates))
-        .also(18, place, new & found)
 }
 
 // Judges the lines from byte `from` on, the first of which has the given number.
-pub fn judge_later(
-    text: &[u8],
-    from: usize,
-    number: usize,
-    gates: bool,
-    firsts: &[u64; 1024],
-    seconds: &[u64; 1024],
-) -> Later
+pub fn judge_later(text: &[u8], from: usize, number: usize, gates: bool, names: &[Name]) -> Later
     requires { (from ≤ length text.now) × (number ≤ from + 1) }
-    ensures { JudgedLater (forms_of (drop from text.now)) firsts.now seconds.now number gates result }
+    ensures { JudgedLater (forms_of (drop from text.now)) names.now number gates result }
 {
     let mut at = from;
     let mut passed: usize = 0;
     let mut after = gates;
     let mut more = false;
+    // Form kept: no range fits, since only where a line ends tells where the next one starts; an iterator of lines would be a type more.
     while at < text.len() {
         let span = netlist::line_at(text, at);
-        let end = span.end;
-        let line = netlist::read_line(&text[at..end]);
-        if !line.right {
+        let Some(line) = netlist::read_line(&text[at..span.end]) else {
             return refused_at(number + passed);
-        }
-        let verdict = judge(
+        };
+        let earlier = Earlier {
+            names,
             text,
             from,
-            passed,
-            firsts,
-            seconds,
-            line,
-            number + passed,
-            after,
-        );
+            lines: passed,
+        };
+        let verdict = earlier.judge(line, number + passed, after);
         if let Verdict::Refused(r) = verdict {
             return Later {
                 verdict: Verdict::Refused(r),
@@ -140,8 +114,8 @@ pub fn judge_later(
         }
         at = span.next;
         passed += 1;
-        after = after | (1 < line.kind);
-        more = more | (line.kind != 0);
+        after |= line.is_gate();
+        more |= line.name().is_some();
     }
     Later {
         verdict: Verdict::Accepted,

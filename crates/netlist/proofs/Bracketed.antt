@@ -1,13 +1,15 @@
 -- Laws of names in brackets, as they are read one after the other.
 -- Assumes nothing.
 use Prim.Native.Nat.{ℕ, ◌+◌, ◌≤◌, ◌<◌}
-use mathlib.Core.Bool.{true, false}
+use mathlib.Core.Bool.{Bool, true, false}
 use mathlib.Core.List.{List, [], ◌∷◌, ◌++◌, append_assoc}
 use mathlib.Core.Path.{◌≡◌, refl, ap, sym, ◌∙◌}
 use native.Mathlib.Omega.{arith}
 use lib.ListN.{length, drop, set, length-append}
 use borrow.Author.Tests.{le-leb, lt-leb}
 use borrow.Table.Steps.{cases}
+use Rattle.std.proofs.Common.{Some, None}
+use Rattle.std.specs.Bool.{then_some}
 use Rattle.laws.proofs.Tests.{and_both, and_first_fails, and_second_fails}
 use Rattle.netlist.specs.declared.Mark.TheVariants.{Comma, Close}
 use Rattle.netlist.specs.declared.Name.{Name}
@@ -15,7 +17,7 @@ use Rattle.netlist.specs.declared.Piece.{Piece}
 use Rattle.netlist.specs.Lines.{content}
 use Rattle.netlist.specs.Names.{Letters, is_letter_or_digit, is_name, are_names}
 use Rattle.netlist.specs.Forms.{Part, part, parts_of, begun_by, ended, closed, bracketed}
-use Rattle.netlist.specs.Kept.{name_kept, word_kept, four_kept, brackets_right, brackets_kept, wrong_names, no_names, PieceRead}
+use Rattle.netlist.specs.Kept.{name_kept, word_kept, four_kept, brackets_right, brackets_kept, no_name, names_kept, PieceRead}
 use Rattle.netlist.proofs.KnownWords.{names_append}
 use Rattle.netlist.proofs.Parts.{parts_from, piece_parts}
 
@@ -47,26 +49,26 @@ words_some (first ∷ rest) h = omega arith
 
 -- What makes words in brackets wrong, and right.
 
-wrong_kept : (parts : List Part) → brackets_right parts ≡ false → wrong_names ≡ brackets_kept parts
+wrong_kept : (parts : List Part) → brackets_right parts ≡ false → None ≡ brackets_kept parts
 unfolding brackets_kept
 wrong_kept parts e = rw e refl
 
-not_closed : (parts : List Part) → closed parts ≡ false → wrong_names ≡ brackets_kept parts
+not_closed : (parts : List Part) → closed parts ≡ false → None ≡ brackets_kept parts
 unfolding brackets_right
 not_closed parts e = wrong_kept parts (and_first_fails _ e)
 
-not_names : (parts : List Part) → are_names (bracketed parts) ≡ false → wrong_names ≡ brackets_kept parts
+not_names : (parts : List Part) → are_names (bracketed parts) ≡ false → None ≡ brackets_kept parts
 unfolding brackets_right
 not_names parts e = wrong_kept parts (and_second_fails (closed parts) (and_first_fails _ e))
 
-too_many : (parts : List Part) → 4 < length (bracketed parts) → wrong_names ≡ brackets_kept parts
+too_many : (parts : List Part) → 4 < length (bracketed parts) → None ≡ brackets_kept parts
 unfolding brackets_right
 too_many parts h =
     wrong_kept parts
     (and_second_fails (closed parts) (and_second_fails (are_names (bracketed parts)) (lt-leb (length (bracketed parts)) 4 h)))
 
 right_kept_lem : (parts : List Part) (words : List Letters) → closed parts ≡ true → bracketed parts ≡ words → are_names words ≡ true
-    → length words ≤ 4 → brackets_kept parts ≡ record { right = true; used = length words; names = four_kept words }
+    → length words ≤ 4 → Some (names_kept words) ≡ brackets_kept parts
 unfolding brackets_kept brackets_right
 right_kept_lem parts words e b n h = rw (e, b, n, le-leb (length words) 4 h) refl
 
@@ -80,12 +82,16 @@ pub record NamesSoFar (line : List ℕ) (from : ℕ) (names : List Name) (used a
   pub goes_on : bracketed (parts_from line from) ≡ words ++ bracketed (parts_from line at)
   pub inside : at ≤ length line
 
-pub names_none : (line : List ℕ) (from : ℕ) (names : List Name) → names ≡ no_names → from ≤ length line → NamesSoFar line from names 0 from
+pub names_none : (line : List ℕ) (from : ℕ) (name : Name) → (name.first ≡ 0) × (name.second ≡ 0) → from ≤ length line
+    → NamesSoFar line from (name ∷ name ∷ name ∷ name ∷ []) 0 from
 unfolding are_names four_kept
-names_none line from names e h = record { words = []; many = refl; proper = refl; kept = e; closes = refl; goes_on = refl; inside = h }
+names_none line from name e h =
+    let is : record { first = name.first; second = name.second } ≡ no_name = rw (e.0, e.1) refl in
+    let none : name ≡ no_name = is in
+    record { words = []; many = refl; proper = refl; kept = rw none refl; closes = refl; goes_on = refl; inside = h }
 
 module _ (line : List ℕ) (from : ℕ) (names : List Name) (used at : ℕ) (s : NamesSoFar line from names used at) where
-  pub names_many : 4 ≤ used → wrong_names ≡ brackets_kept (parts_from line from)
+  pub names_many : 4 ≤ used → None ≡ brackets_kept (parts_from line from)
   names_many h =
       too_many (parts_from line from)
       (omega (
@@ -96,14 +102,14 @@ module _ (line : List ℕ) (from : ℕ) (names : List Name) (used at : ℕ) (s :
       ))
 
   module _ (piece : Piece) (r : PieceRead line at piece) where
-    pub names_wrong : is_name r.letters ≡ false → wrong_names ≡ brackets_kept (parts_from line from)
+    pub names_wrong : is_name r.letters ≡ false → None ≡ brackets_kept (parts_from line from)
     unfolding bracketed are_names
     names_wrong e =
         not_names (parts_from line from)
         (ap are_names s.goes_on ∙ names_append s.words (bracketed (parts_from line at))
         ∙ and_second_fails (are_names s.words) (ap (λ parts. are_names (bracketed parts)) r.is ∙ and_first_fails _ e))
 
-    pub names_stop : closed (part r.letters piece.mark ∷ r.rest) ≡ false → wrong_names ≡ brackets_kept (parts_from line from)
+    pub names_stop : closed (part r.letters piece.mark ∷ r.rest) ≡ false → None ≡ brackets_kept (parts_from line from)
     names_stop e = not_closed (parts_from line from) (s.closes ∙ ap closed r.is ∙ e)
 
     -- The names with this one.
@@ -142,14 +148,13 @@ module _ (line : List ℕ) (from : ℕ) (names : List Name) (used at : ℕ) (s :
         unfolding closed
         last = s.closes ∙ ap closed (piece_parts line at piece r Close refl m)
 
-        pub names_open : ended (parts_from line piece.next) ≡ false → wrong_names ≡ brackets_kept (parts_from line from)
-        names_open e = not_closed (parts_from line from) (last ∙ e)
-
-        pub names_right_lem : ended (parts_from line piece.next) ≡ true
-            → record { right = true; used = used + 1; names = set names used piece.word.name } ≡ brackets_kept (parts_from line from)
+        -- The other bracket has come: the names are right if it is the last of the line.
+        pub names_closed : (end : Bool) → end ≡ ended (parts_from line piece.next)
+            → then_some end (record { used = used + 1; names = set names used piece.word.name }) ≡ brackets_kept (parts_from line from)
         unfolding bracketed
-        names_right_lem e =
+        names_closed false e = not_closed (parts_from line from) (last ∙ sym e)
+        names_closed true e =
             let all : bracketed (parts_from line from) ≡ words' =
             s.goes_on ∙ ap (λ parts. s.words ++ bracketed parts) (piece_parts line at piece r Close refl m) in
             rw (kept_more, ← many_more)
-            (sym (right_kept_lem (parts_from line from) words' (last ∙ e) all proper_more (omega (arith, many_more))))
+            (right_kept_lem (parts_from line from) words' (last ∙ sym e) all proper_more (omega (arith, many_more)))

@@ -261,6 +261,14 @@ module _ (kept : Word) (word : Letters) (is : kept ≡ word_kept word) where
       let count = kept_length in
       rw (lt-leb (length word) 8 (omega arith)) refl
 
+-- The word that has no letter.
+pub kept_none : (kept : Word) → ((kept.name.first ≡ 0) × (kept.name.second ≡ 0)) × (kept.length ≡ 0) → kept ≡ word_kept []
+unfolding word_kept name_kept number_of backwards
+kept_none kept e =
+    let is : record { name = record { first = kept.name.first; second = kept.name.second }; length = kept.length }
+    ≡ record { name = record { first = 0; second = 0 }; length = 0 } = rw (e.0.0, e.0.1, e.1) refl in
+    is
+
 -- How a word is kept with a letter more, from how it is kept.
 module _ (kept : Word) (word : Letters) (letter : ℕ) (is : kept ≡ word_kept word) where
   -- By the name and the count of letters.

@@ -1,7 +1,7 @@
 -- Laws of lines, of their content and of its parts, as pieces are read one byte after the other.
 -- Assumes nothing.
 use Prim.Native.Nat.{ℕ, suc, ◌+◌, ◌≤◌, ◌<◌, min}
-use mathlib.Core.Bool.{true, false, ◌||◌, false≢true}
+use mathlib.Core.Bool.{true, false, ◌||◌, or_assoc, false≢true}
 use mathlib.Core.List.{List, [], ◌∷◌, ◌++◌, append-nil, append_assoc}
 use mathlib.Core.Path.{◌≡◌, refl, ap, sym, ◌∙◌}
 use native.Mathlib.Numerals.{add-one, one-add}
@@ -12,6 +12,7 @@ use lib.Seq.{drop-cons}
 use borrow.Author.Tests.{eqb-true, ne_eqb}
 use borrow.Table.Steps.{cases}
 use Rattle.laws.proofs.Tests.{and_both, or_cases}
+use Rattle.std.specs.Char.{is_ascii_alphanumeric}
 use Rattle.std.specs.List.{position_or_len}
 use Rattle.block.specs.Refusals.{within}
 use Rattle.netlist.specs.declared.Mark.{Mark}
@@ -22,7 +23,7 @@ use Rattle.netlist.specs.Lines.{lines_of, started_by, is_blank, uncommented, wit
 use Rattle.netlist.specs.Names.{Letters, is_letter_or_digit, lettered}
 use Rattle.netlist.specs.Forms.{Part, part, parts_of, mark_of, begun_by, is_empty, is_end}
 use Rattle.netlist.specs.Kept.{word_kept, OfLetters, PieceRead}
-use Rattle.netlist.proofs.Packing.{first_proper, rest_proper}
+use Rattle.netlist.proofs.Packing.{first_proper, rest_proper, kept_none}
 
 -- How many bytes come before the first byte 10, all of them where there is none.
 abbrev pub line_length : List ℕ → ℕ
@@ -37,6 +38,11 @@ lines_first (byte ∷ []) h = cases (eqb byte 10) (λ e. rw e refl) (λ e. rw e 
 lines_first (byte ∷ next ∷ rest) h =
     cases (eqb byte 10) (λ e. rw e refl)
     (λ e. rw e (rw one-add (ap (started_by byte) (lines_first (next ∷ rest) (omega arith)))))
+
+-- Letters and digits as the code tests them.
+pub letter_tested : (byte : ℕ) → is_ascii_alphanumeric byte ≡ is_letter_or_digit byte
+unfolding is_letter_or_digit within
+letter_tested byte = or_assoc (within 48 57 byte) (within 65 90 byte) (within 97 122 byte)
 
 -- No blank is a letter.
 blank_no_letter : (byte : ℕ) → is_blank byte ≡ true → is_letter_or_digit byte ≡ false
@@ -113,9 +119,10 @@ pub record PieceSoFar (line : List ℕ) (from : ℕ) (word : Word) (at : ℕ) : 
   pub goes_on : parts_from line from ≡ begun_with letters (parts_from line at)
   pub inside : at ≤ length line
 
-pub piece_begun : (line : List ℕ) (from : ℕ) (word : Word) → word ≡ word_kept [] → from ≤ length line → PieceSoFar line from word from
+pub piece_begun : (line : List ℕ) (from : ℕ) (word : Word) → ((word.name.first ≡ 0) × (word.name.second ≡ 0)) × (word.length ≡ 0)
+    → from ≤ length line → PieceSoFar line from word from
 unfolding lettered
-piece_begun line from word e h = record { letters = []; kept = e; proper = refl; goes_on = begun_none _; inside = h }
+piece_begun line from word e h = record { letters = []; kept = kept_none word e; proper = refl; goes_on = begun_none _; inside = h }
 
 -- The piece that the letters so far make with the first of the parts that are left.
 piece_read : (line : List ℕ) (from at next : ℕ) (word : Word) (mark : Mark) (rest : List Part) → PieceSoFar line from word at

@@ -1,6 +1,8 @@
 -- How the code keeps words, names and lines, and what its functions promise of them.
-use Rattle.std.specs.Prelude.{ℕ, ◌+◌, ◌-◌, ◌*◌, ◌≤◌, ◌<◌, min, Bool, true, false, cond, ◌&&◌, List, [], ◌∷◌, map, reverse, ◌≡◌, leb, eqb, length, get_or, take, drop}
+use Rattle.std.specs.Prelude.{ℕ, ◌+◌, ◌-◌, ◌*◌, ◌≤◌, ◌<◌, min, Bool, true, false, cond, ◌&&◌, Option, Some, None, List, [], ◌∷◌, map, reverse, ◌≡◌, leb, eqb, length, get_or, take, drop}
+use Rattle.netlist.specs.declared.GateLine.{GateLine}
 use Rattle.netlist.specs.declared.Line.{Line}
+use Rattle.netlist.specs.declared.Line.TheVariants.{Nothing, Input, Gate}
 use Rattle.netlist.specs.declared.Name.{Name}
 use Rattle.netlist.specs.declared.Names.{Names}
 use Rattle.netlist.specs.declared.Piece.{Piece}
@@ -34,6 +36,10 @@ word_kept word = record { name = name_kept word; length = min (length word) 17 }
 abbrev pub OfLetters : Word → (Letters → Type 0) → Type 0
 OfLetters word P = (letters : Letters) → word ≡ word_kept letters → lettered letters ≡ true → P letters
 
+-- The kind that a word names, if any.
+abbrev pub kind_kept : Letters → Option ℕ
+kind_kept word = cond (eqb (kind_named word) 0) None (Some (kind_named word))
+
 -- Whether two names are the same.
 abbrev pub same_name : Name → Name → Bool
 same_name a b = eqb a.first b.first && eqb a.second b.second
@@ -53,33 +59,39 @@ four_kept words = kept_at words 0 ∷ kept_at words 1 ∷ kept_at words 2 ∷ ke
 unfoldable pub brackets_right : List Part → Bool
 brackets_right parts = closed parts && (are_names (bracketed parts) && leb (length (bracketed parts)) 4)
 
-abbrev pub no_names : List Name
-no_names = no_name ∷ no_name ∷ no_name ∷ no_name ∷ []
+-- They are kept with how many they are.
+abbrev pub names_kept : List Letters → Names
+names_kept words = record { used = length words; names = four_kept words }
 
-abbrev pub wrong_names : Names
-wrong_names = record { right = false; used = 0; names = no_names }
+unfoldable pub brackets_kept : List Part → Option Names
+brackets_kept parts = cond (brackets_right parts) (Some (names_kept (bracketed parts))) None
 
-unfoldable pub brackets_kept : List Part → Names
-brackets_kept parts =
-    cond (brackets_right parts) (record { right = true; used = length (bracketed parts); names = four_kept (bracketed parts) }) wrong_names
+-- A gate is kept with its kind, its name and its pins.
+abbrev pub gate_kept : Letters → Letters → List Letters → GateLine
+gate_kept name word pins = record { kind = kind_named word; name = name_kept name; pins = names_kept pins }
 
--- A line: of one that passes check 17 by itself, the kind of its record, 0 where it gives none, its name and its pins.
-abbrev pub without_pins : Bool → ℕ → Name → Line
-without_pins right kind name = record { right = right; kind = kind; name = name; used = 0; pins = no_names }
-
-abbrev pub wrong_line : Line
-wrong_line = without_pins false 0 no_name
-
+-- A line, if it passes check 17 by itself: by the record that it gives.
 abbrev pub right_kept : Form → Line
-right_kept empty = without_pins true 0 no_name
-right_kept (input name) = without_pins true 1 (name_kept name)
-right_kept (output name) = without_pins true 0 no_name
-right_kept (gate name word pins) =
-    record { right = true; kind = kind_named word; name = name_kept name; used = length pins; pins = four_kept pins }
-right_kept none = wrong_line
+right_kept empty = Nothing
+right_kept (input name) = Input (name_kept name)
+right_kept (output name) = Nothing
+right_kept (gate name word pins) = Gate (gate_kept name word pins)
+right_kept none = Nothing
 
-unfoldable pub line_kept : Form → Line
-line_kept form = cond (form_right form) (right_kept form) wrong_line
+unfoldable pub line_kept : Form → Option Line
+line_kept form = cond (form_right form) (Some (right_kept form)) None
+
+-- The name that a line gives to a record, if any, and whether it is a gate.
+
+abbrev pub line_name : Line → Option Name
+line_name Nothing = None
+line_name (Input name) = Some name
+line_name (Gate given) = Some given.name
+
+abbrev pub line_is_gate : Line → Bool
+line_is_gate Nothing = false
+line_is_gate (Input name) = false
+line_is_gate (Gate given) = true
 
 -- A line that starts at a byte of a text: up to its end, with the next line after it.
 pub record LineAt (text : List ℕ) (at : ℕ) (span : Span) : Type 0 where

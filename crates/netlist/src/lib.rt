@@ -5,21 +5,21 @@ ghost use Rattle.std.specs.Prelude.{◌≡◌, ◌≤◌, ◌<◌, ◌==◌, len
 ghost use Rattle.std.specs.List.{position};
 ghost use Rattle.netlist.specs.Lines.{content};
 ghost use Rattle.netlist.specs.Forms.{parts_of, declared, assigned, line_form};
-ghost use Rattle.netlist.specs.Kept.{LineAt, same_name, without_pins, wrong_line, line_kept, OfLetters};
+ghost use Rattle.netlist.specs.Kept.{LineAt, line_kept, line_name, line_is_gate, OfLetters};
 
 mod brackets;
 mod pieces;
 mod words;
 
-// A name as two numbers: its first eight letters, and the next eight.
-#[derive(Clone, Copy)]
+// A name as two numbers: its first eight letters, and the next eight. The default is no name.
+#[derive(Clone, Copy, Default, PartialEq, Eq)]
 pub struct Name {
     pub first: u64,
     pub second: u64,
 }
 
-// A word as it is read: its first sixteen letters, and how many it has, 17 standing for all that are too many.
-#[derive(Clone, Copy)]
+// A word as it is read: its first sixteen letters, and how many it has, 17 standing for all that are too many. The default has none.
+#[derive(Clone, Copy, Default)]
 pub struct Word {
     pub name: Name,
     pub length: usize,
@@ -44,23 +44,50 @@ pub struct Piece {
     pub next: usize,
 }
 
-// Names in brackets: whether they are right, how many, and each of them.
+// Names in brackets: how many of the four places are used, and each of the names.
 #[derive(Clone, Copy)]
 pub struct Names {
-    pub right: bool,
     pub used: usize,
     pub names: [Name; 4],
 }
 
-// A line as it is read: whether it is right by itself, and of a line that is, the kind of the record that it gives, as document 01
-// numbers kinds, 0 of a line that gives none, its name and its pins' names. `used` is the pin count.
+// A gate as its line has it: its kind, as document 01 numbers kinds, its name and its pins' names, as many as its pin count.
 #[derive(Clone, Copy)]
-pub struct Line {
-    pub right: bool,
+pub struct GateLine {
     pub kind: usize,
     pub name: Name,
-    pub used: usize,
-    pub pins: [Name; 4],
+    pub pins: Names,
+}
+
+// A line that is right by itself, by the record that it gives: none, an input's or a gate's.
+#[derive(Clone, Copy)]
+pub enum Line {
+    Nothing,
+    Input(Name),
+    Gate(GateLine),
+}
+
+impl Line {
+    // The name that a line gives to a record, if any.
+    pub fn name(self) -> Option<Name>
+        ensures { result ≡ line_name self }
+    {
+        match self {
+            Line::Nothing => None,
+            Line::Input(name) => Some(name),
+            Line::Gate(gate) => Some(gate.name),
+        }
+    }
+
+    // Whether a line is a gate.
+    pub fn is_gate(self) -> bool
+        ensures { result ≡ line_is_gate self }
+    {
+        match self {
+            Line::Nothing | Line::Input(_) => false,
+            Line::Gate(_) => true,
+        }
+    }
 }
 
 // Where a line of a text ends, and where the next one starts.
@@ -95,89 +122,50 @@ pub fn line_at(text: &[u8], at: usize) -> Span
     }
 }
 
-// Whether two names are the same.
-pub fn same_name(a: Name, b: Name) -> bool
-    ensures { result ≡ same_name a b }
-{
-    (a.first == b.first) & (a.second == b.second)
-}
-
-// A line without pins.
-fn without_pins(right: bool, kind: usize, name: Name) -> Line
-    ensures { result ≡ without_pins right kind name }
-{
-    Line {
-        right,
-        kind,
-        name,
-        used: 0,
-        pins: brackets::no_names(),
-    }
-}
-
-// A line that is not right.
-fn wrong_line() -> Line
-    ensures { result ≡ wrong_line }
-{
-    without_pins(false, 0, words::no_name())
-}
-
 // INPUT or OUTPUT, by the number of the word, from the word before the bracket and where the line goes on after it.
-fn declaration(line: &[u8], word: Word, at: usize) -> Line
+fn declaration(line: &[u8], word: Word, at: usize) -> Option<Line>
     requires { at ≤ length line.now }
     ensures { OfLetters word (λ letters. result ≡ line_kept (declared letters (parts_of (content (drop at line.now))))) }
 {
-    let names = brackets::read_names(line, at);
-    if !names.right | (names.used != 1) {
-        return wrong_line();
+    let names = brackets::read_names(line, at)?;
+    if names.used != 1 {
+        return None;
     }
-    let number = words::short(word);
-    let all = names.names;
-    match number {
-        0x494e505554 => without_pins(true, 1, all[0]),
-        0x4f5554505554 => without_pins(true, 0, words::no_name()),
-        _ => wrong_line(),
+    match word.short() {
+        0x494e505554 => Some(Line::Input(names.names[0])),
+        0x4f5554505554 => Some(Line::Nothing),
+        _ => None,
     }
 }
 
 // A gate, from its name and where the line goes on after the `=`.
-fn assignment(line: &[u8], name: Word, at: usize) -> Line
+fn assignment(line: &[u8], name: Word, at: usize) -> Option<Line>
     requires { at ≤ length line.now }
     ensures { OfLetters name (λ letters. result ≡ line_kept (assigned letters (parts_of (content (drop at line.now))))) }
 {
     let piece = pieces::read_piece(line, at);
-    let mark = piece.mark;
-    let Mark::Open = mark else {
-        return wrong_line();
+    let Mark::Open = piece.mark else {
+        return None;
     };
-    let names = brackets::read_names(line, piece.next);
-    let kind = words::kind_named(piece.word);
-    let right = words::is_name(name) & words::pin_count_right(kind, names.used);
-    if !names.right | !right {
-        return wrong_line();
-    }
-    let given = name.name;
-    let pins = names.names;
-    Line {
-        right: true,
+    let pins = brackets::read_names(line, piece.next)?;
+    let kind = piece.word.kind()?;
+    let right = name.is_name() & words::pin_count_right(kind, pins.used);
+    right.then_some(Line::Gate(GateLine {
         kind,
-        name: given,
-        used: names.used,
+        name: name.name,
         pins,
-    }
+    }))
 }
 
-// Reads a line.
-pub fn read_line(line: &[u8]) -> Line
+// Reads a line: none where it fits no form.
+pub fn read_line(line: &[u8]) -> Option<Line>
     ensures { result ≡ line_kept (line_form line.now) }
 {
     let first = pieces::read_piece(line, 0);
-    let word = first.word;
-    let mark = first.mark;
-    match mark {
-        Mark::End => without_pins(word.length == 0, 0, words::no_name()),
-        Mark::Open => declaration(line, word, first.next),
-        Mark::Equals => assignment(line, word, first.next),
-        Mark::Comma | Mark::Close | Mark::Other => wrong_line(),
+    match first.mark {
+        Mark::End => (first.word.length == 0).then_some(Line::Nothing),
+        Mark::Open => declaration(line, first.word, first.next),
+        Mark::Equals => assignment(line, first.word, first.next),
+        Mark::Comma | Mark::Close | Mark::Other => None,
     }
 }

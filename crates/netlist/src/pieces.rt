@@ -1,37 +1,30 @@
 // A line, piece by piece.
 ghost use Rattle.std.specs.Prelude.{◌≡◌, ◌≤◌, length};
 ghost use Rattle.netlist.specs.Lines.{is_blank};
-ghost use Rattle.netlist.specs.Names.{is_letter_or_digit};
 ghost use Rattle.netlist.specs.Forms.{mark_of};
 ghost use Rattle.netlist.specs.Kept.{PieceRead};
 
-use super::{Mark, Piece, words};
-
-// Whether a byte is a letter or a digit.
-fn is_letter_or_digit(byte: u8) -> bool
-    ensures { result ≡ is_letter_or_digit byte }
-{
-    ((b'0' <= byte) & (byte <= b'9'))
-        | (((b'A' <= byte) & (byte <= b'Z')) | ((b'a' <= byte) & (byte <= b'z')))
-}
+use super::{Mark, Piece, Word};
 
 // Whether a byte is a blank.
 fn is_blank(byte: u8) -> bool
     ensures { result ≡ is_blank byte }
 {
-    (byte == 9) | ((byte == 13) | (byte == 32))
+    matches!(byte, b'\t' | b'\r' | b' ')
 }
 
 // The mark that a byte is.
-fn mark(byte: u8) -> Mark
-    ensures { result ≡ mark_of byte }
-{
-    match byte {
-        b'=' => Mark::Equals,
-        b'(' => Mark::Open,
-        b',' => Mark::Comma,
-        b')' => Mark::Close,
-        _ => Mark::Other,
+impl From<u8> for Mark {
+    ghost from_gives = { λ byte mark. mark ≡ mark_of byte };
+
+    fn from(byte: u8) -> Mark {
+        match byte {
+            b'=' => Mark::Equals,
+            b'(' => Mark::Open,
+            b',' => Mark::Comma,
+            b')' => Mark::Close,
+            _ => Mark::Other,
+        }
     }
 }
 
@@ -40,9 +33,8 @@ pub fn read_piece(line: &[u8], from: usize) -> Piece
     requires { from ≤ length line.now }
     ensures { PieceRead line.now from result }
 {
-    let mut word = words::none();
-    let mut at = from;
-    while at < line.len() {
+    let mut word = Word::default();
+    for at in from..line.len() {
         let byte = line[at];
         if byte == b'#' {
             return Piece {
@@ -51,20 +43,19 @@ pub fn read_piece(line: &[u8], from: usize) -> Piece
                 next: at,
             };
         }
-        at += 1;
-        if is_letter_or_digit(byte) {
+        if byte.is_ascii_alphanumeric() {
             word = word.with(byte);
         } else if !is_blank(byte) {
             return Piece {
                 word,
-                mark: mark(byte),
-                next: at,
+                mark: Mark::from(byte),
+                next: at + 1,
             };
         }
     }
     Piece {
         word,
         mark: Mark::End,
-        next: at,
+        next: line.len(),
     }
 }

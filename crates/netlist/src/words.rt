@@ -1,37 +1,17 @@
 // Words, letter by letter, and what they name.
 ghost use Rattle.std.specs.Prelude.{◌∷◌, [], ◌++◌, ◌≡◌, ◌+◌, ◌*◌, ◌%◌};
 ghost use Rattle.netlist.specs.Names.{is_name};
-ghost use Rattle.netlist.specs.Forms.{kind_named, pins_allowed};
-ghost use Rattle.netlist.specs.Kept.{no_name, word_kept, short_number, OfLetters};
+ghost use Rattle.netlist.specs.Forms.{pins_allowed};
+ghost use Rattle.netlist.specs.Kept.{word_kept, short_number, kind_kept, OfLetters};
 
 use super::{Name, Word};
-
-// No name.
-pub fn no_name() -> Name
-    ensures { result ≡ no_name }
-{
-    Name {
-        first: 0,
-        second: 0,
-    }
-}
-
-// No word yet.
-pub fn none() -> Word
-    ensures { result ≡ word_kept [] }
-{
-    Word {
-        name: no_name(),
-        length: 0,
-    }
-}
 
 // The number of a word of seven letters at most, with a letter more. Such a number is below 256 ^ 7, which is the number here; of any
 // other, which is no such word's, the remainder is taken, so that nothing wraps.
 fn followed(number: u64, letter: u8) -> u64
     ensures { result ≡ 256 * (number % 72057594037927936) + letter }
 {
-    256 * (number % 72057594037927936) + letter as u64
+    256 * (number % 72057594037927936) + u64::from(letter)
 }
 
 impl Word {
@@ -61,40 +41,37 @@ impl Word {
         }
         Word { name, length: 17 }
     }
-}
 
-// Whether a word is a name, by its length.
-pub fn is_name(word: Word) -> bool
-    ensures { OfLetters word (λ letters. result ≡ is_name letters) }
-{
-    (1 <= word.length) & (word.length <= 16)
-}
+    // Whether a word is a name, by its length.
+    pub fn is_name(self) -> bool
+        ensures { OfLetters self (λ letters. result ≡ is_name letters) }
+    {
+        (1 <= self.length) & (self.length <= 16)
+    }
 
-// The number of a word of eight letters at most, 0 of a longer one.
-pub fn short(word: Word) -> u64
-    ensures { OfLetters word (λ letters. result ≡ short_number letters) }
-{
-    let name = word.name;
-    if word.length <= 8 { name.first } else { 0 }
-}
+    // The number of a word of eight letters at most, 0 of a longer one.
+    pub fn short(self) -> u64
+        ensures { OfLetters self (λ letters. result ≡ short_number letters) }
+    {
+        if self.length <= 8 { self.name.first } else { 0 }
+    }
 
-// The kind that a word names, 0 where it names none: AND, NAND, OR, NOR, XOR, XNOR, NOT, BUF and BUFF, by the numbers of the words, which
-// have two hexadecimal digits for each letter.
-pub fn kind_named(word: Word) -> usize
-    ensures { OfLetters word (λ letters. result ≡ kind_named letters) }
-{
-    let number = short(word);
-    match number {
-        0x414e44 => 2,
-        0x4e414e44 => 3,
-        0x4f52 => 4,
-        0x4e4f52 => 5,
-        0x584f52 => 6,
-        0x584e4f52 => 7,
-        0x4e4f54 => 8,
-        0x425546 => 9,
-        0x42554646 => 9,
-        _ => 0,
+    // The kind that a word names, if any: AND, NAND, OR, NOR, XOR, XNOR, NOT, BUF and BUFF, by the numbers of the words, which have two
+    // hexadecimal digits for each letter.
+    pub fn kind(self) -> Option<usize>
+        ensures { OfLetters self (λ letters. result ≡ kind_kept letters) }
+    {
+        match self.short() {
+            0x414e44 => Some(2),
+            0x4e414e44 => Some(3),
+            0x4f52 => Some(4),
+            0x4e4f52 => Some(5),
+            0x584f52 => Some(6),
+            0x584e4f52 => Some(7),
+            0x4e4f54 => Some(8),
+            0x425546 | 0x42554646 => Some(9),
+            _ => None,
+        }
     }
 }
 

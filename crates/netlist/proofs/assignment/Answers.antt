@@ -2,18 +2,19 @@
 -- Assumes nothing.
 use mathlib.Core.List.{List, ◌∷◌}
 use mathlib.Core.Path.{◌≡◌, refl, sym, ap, ◌∙◌}
+use Rattle.std.proofs.Common.{None}
 use Rattle.netlist.specs.declared.Mark.{Mark}
 use Rattle.netlist.specs.declared.Mark.TheVariants.{Equals, Open, Comma, Close, Other, End}
 use Rattle.netlist.specs.Names.{Letters}
 use Rattle.netlist.specs.Forms.{Part, part, assigned, form_right}
-use Rattle.netlist.specs.Kept.{word_kept, wrong_line, line_kept}
+use Rattle.netlist.specs.Kept.{word_kept, line_kept}
 use Rattle.netlist.proofs.Parts.{of_piece, piece_parts}
-use Rattle.netlist.proofs.Formed.{assigned_wrong, assigned_right}
+use Rattle.netlist.proofs.Formed.{assigned_wrong, assigned_unknown, assigned_right}
 use Rattle.netlist.proofs.assignment.Goals as goal
 
 -- What follows the `=` with another mark than the opening bracket is no gate.
 no_gate : (mark : Mark) → (mark ≡ Open → ⊥) → (letters word : Letters) (rest : List Part)
-    → wrong_line ≡ line_kept (assigned letters (part word mark ∷ rest))
+    → None ≡ line_kept (assigned letters (part word mark ∷ rest))
 unfolding assigned line_kept form_right
 no_gate Equals h letters word rest = refl
 no_gate Open h letters word rest = absurd (h refl)
@@ -25,31 +26,30 @@ no_gate End h letters word rest = refl
 pub returns-in_default : goal.returns-in_default
 returns-in_default c letters e l =
     let piece = c.read_piece-piece in
-    c.wrong_line.ensures
-    ∙ no_gate piece.result.mark c.in_default.not-Open letters piece.ensures.letters piece.ensures.rest
+    no_gate piece.result.mark c.in_default.not-Open letters piece.ensures.letters piece.ensures.rest
     ∙ ap (λ parts. line_kept (assigned letters parts)) (sym piece.ensures.is)
 
-pub returns-then-names-right : goal.returns-then-names-right
-returns-then-names-right c letters e l =
-    let named = c.is_name in
-    let kind = c.kind_named-kind in
+pub returns-in_err-pins : goal.returns-in_err-pins
+returns-in_err-pins c letters e l =
     let piece = c.read_piece-piece in
-    c.wrong_line-then-names-right.ensures
-    ∙ assigned_wrong letters piece.ensures.letters _ c.read_names-names.result c.read_names-names.ensures _
-    (piece_parts _ _ piece.result piece.ensures Open refl c.in-Open.is)
-    kind.result named.result c.pin_count_right.result
-    (of_piece _ piece.ensures kind.ensures) (named.ensures letters e l) c.pin_count_right.ensures
-    c.if-names-right.true
+    c.from_residual.ensures
+    ∙ assigned_wrong letters _ _ _ (piece_parts _ _ piece.result piece.ensures Open refl c.in-Open.is)
+    (sym c.in_err-pins.was ∙ c.read_names.ensures)
+
+pub returns-in_err-kind : goal.returns-in_err-kind
+returns-in_err-kind c letters e l =
+    let piece = c.read_piece-piece in
+    c.from_residual-in_err-kind.ensures
+    ∙ assigned_unknown letters _ _ _ (piece_parts _ _ piece.result piece.ensures Open refl c.in-Open.is)
+    (sym c.in_err-kind.was ∙ of_piece _ piece.ensures c.kind.ensures)
 
 pub returns : goal.returns
 unfolding word_kept
 returns c letters e l =
-    let named = c.is_name in
-    let kind = c.kind_named-kind in
     let piece = c.read_piece-piece in
-    rw e
-    (assigned_right letters piece.ensures.letters _ c.read_names-names.result c.read_names-names.ensures _
+    c.then_some.ensures
+    ∙ rw e
+    (assigned_right letters piece.ensures.letters _ _
     (piece_parts _ _ piece.result piece.ensures Open refl c.in-Open.is)
-    kind.result named.result c.pin_count_right.result
-    (of_piece _ piece.ensures kind.ensures) (named.ensures letters e l) c.pin_count_right.ensures
-    c.if-names-right.false)
+    (sym c.in_ok-pins.was ∙ c.read_names.ensures) (sym c.in_ok-kind.was ∙ of_piece _ piece.ensures c.kind.ensures)
+    (c.is_name.ensures letters e l) c.pin_count_right.ensures)

@@ -4,23 +4,26 @@ use mathlib.Core.Bool.{Bool, true, false, cond}
 use mathlib.Core.List.{List, ◌∷◌}
 use mathlib.Core.Logic.{◌⊎◌, inl, inr}
 use mathlib.Core.Path.{◌≡◌, refl, sym, ap, ◌∙◌}
+use Rattle.std.proofs.Common.{None}
+use Rattle.std.specs.Bool.{then_some}
+use Rattle.netlist.specs.declared.Line.TheVariants.{Nothing}
 use Rattle.netlist.specs.declared.Mark.{Mark}
 use Rattle.netlist.specs.declared.Mark.TheVariants.{Equals, Open, Comma, Close, Other}
 use Rattle.netlist.specs.Names.{Letters}
 use Rattle.netlist.specs.Forms.{Part, part, is_empty, empty, none, form_of, line_form, form_right}
-use Rattle.netlist.specs.Kept.{no_name, without_pins, wrong_line, line_kept}
+use Rattle.netlist.specs.Kept.{line_kept}
 use Rattle.netlist.proofs.Parts.{of_piece, piece_parts, kept_empty}
 use Rattle.netlist.proofs.read_line.Goals as goal
 
 -- A line that ends after its first word.
-ends : (b : Bool) → without_pins b 0 no_name ≡ line_kept (cond b empty none)
+ends : (b : Bool) → then_some b Nothing ≡ line_kept (cond b empty none)
 unfolding line_kept form_right
 ends true = refl
 ends false = refl
 
 -- A line whose first mark is none of these fits no form.
 no_form : (mark : Mark) → (mark ≡ Comma) ⊎ (mark ≡ Close) ⊎ (mark ≡ Other) → (word : Letters) (rest : List Part)
-    → wrong_line ≡ line_kept (form_of (part word mark ∷ rest))
+    → None ≡ line_kept (form_of (part word mark ∷ rest))
 unfolding form_of line_kept form_right
 no_form mark (inl e) word rest = rw e refl
 no_form mark (inr (inl e)) word rest = rw e refl
@@ -31,9 +34,8 @@ unfolding line_form form_of
 returns-in-End c =
     let piece = c.read_piece-first in
     let letters = piece.ensures.letters in
-    c.without_pins.ensures
+    c.then_some.ensures
     ∙ rw (
-      c.no_name.ensures,
       kept_empty letters piece.result.word piece.ensures.word,
       piece.ensures.is,
       c.in-End.is,
@@ -58,6 +60,5 @@ pub returns-in-Comma : goal.returns-in-Comma
 unfolding line_form
 returns-in-Comma c =
     let piece = c.read_piece-first in
-    c.wrong_line.ensures
-    ∙ no_form piece.result.mark c.in-Comma.is piece.ensures.letters piece.ensures.rest
+    no_form piece.result.mark c.in-Comma.is piece.ensures.letters piece.ensures.rest
     ∙ sym (ap (λ parts. line_kept (form_of parts)) piece.ensures.is)

@@ -1,5 +1,6 @@
 -- `bench::making::gate_record` meets its contract.
 -- Assumes nothing.
+use mathlib.Core.Path.{ap}
 use lib.ListN.{get_or}
 use Rattle.bench.proofs.RecordBytes.{gate_bytes}
 use Rattle.bench.proofs.making.gate_record.Goals as goal
@@ -8,11 +9,11 @@ pub returns : goal.returns
 returns c =
     let given = c.args in
     gate_bytes given.list.now _ _ (λ p. get_or given.nets p 0) _ _ _ _ _ _ _ _
-    c.low.ensures
-    c.high.ensures
-    c.low-2.ensures
-    c.high-2.ensures
-    c.low-3.ensures
-    c.high-3.ensures
-    c.low-4.ensures
-    c.high-4.ensures
+    (ap (λ bytes. get_or bytes 0 0) c.bytes_of-first.ensures)
+    (ap (λ bytes. get_or bytes 1 0) c.bytes_of-first.ensures)
+    (ap (λ bytes. get_or bytes 0 0) c.bytes_of-second.ensures)
+    (ap (λ bytes. get_or bytes 1 0) c.bytes_of-second.ensures)
+    (ap (λ bytes. get_or bytes 0 0) c.bytes_of-third.ensures)
+    (ap (λ bytes. get_or bytes 1 0) c.bytes_of-third.ensures)
+    (ap (λ bytes. get_or bytes 0 0) c.bytes_of-fourth.ensures)
+    (ap (λ bytes. get_or bytes 1 0) c.bytes_of-fourth.ensures)

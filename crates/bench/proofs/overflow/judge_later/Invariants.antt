@@ -6,8 +6,7 @@ use Rattle.bench.proofs.LaterLines.{LinesJudged}
 use Rattle.bench.proofs.overflow.judge_later.Given as goal
 
 abbrev pub invariant-loop-at : goal.invariant-loop-at
-invariant-loop-at l =
-    LinesJudged l.text l.firsts l.seconds l.from l.number l.gates l.at l.passed l.after l.more
+invariant-loop-at l = LinesJudged l.text l.names l.from l.number l.gates l.at l.passed l.after l.more
 
 abbrev pub decreases-loop-at : goal.decreases-loop-at
 decreases-loop-at l = length l.text - l.at

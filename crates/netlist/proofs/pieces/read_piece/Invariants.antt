@@ -1,12 +1,7 @@
 -- `netlist::pieces::read_piece` meets its contract.
 -- Assumes nothing.
-use Prim.Native.Nat.{◌-◌}
-use lib.ListN.{length}
 use Rattle.netlist.proofs.Parts.{PieceSoFar}
 use Rattle.netlist.proofs.pieces.read_piece.Given as goal
 
 abbrev pub invariant-loop-at : goal.invariant-loop-at
 invariant-loop-at l = PieceSoFar l.line l.from l.word l.at
-
-abbrev pub decreases-loop-at : goal.decreases-loop-at
-decreases-loop-at l = length l.line - l.at

@@ -1,0 +1,7 @@
+-- `netlist::Word::is_name` meets its contract.
+-- Assumes nothing.
+use Rattle.netlist.proofs.Packing.{name_told}
+use Rattle.netlist.proofs.Word.is_name.Goals as goal
+
+pub returns : goal.returns
+returns c letters e proper = name_told c.args.self letters e proper
