@@ -1,18 +1,17 @@
 -- The agreement over the calls follows from the agreement over the promises: an accepted call's numbers are those of what it found.
 -- Assumes nothing.
+use Rattle.std.specs.Prelude.{Ok}
+use Rattle.block.specs.Verdict.{Accepted}
 use Prim.Native.Nat.{ℕ, ◌≤◌}
 use mathlib.Core.Bool.{cond}
 use mathlib.Core.List.{List}
 use mathlib.Core.Path.{◌≡◌, refl, ap, sym, subst, ◌∙◌}
 use lib.Dec.{eqb}
-use Rattle.block.specs.declared.Verdict.TheVariants.{Accepted}
 use Rattle.operation.specs.Numbers.{currents_numbers, outcome_number, search_numbers}
 use Rattle.operation.specs.Operation.{answer_after}
-use Rattle.operation.specs.declared.CurrentsAnswer.TheVariants as currents
 use Rattle.operation.specs.declared.Found.{Found}
 use Rattle.operation.specs.declared.Outcome.{Outcome}
 use Rattle.operation.specs.declared.Outcome.TheVariants.{Exact, Within, Spent}
-use Rattle.operation.specs.declared.SearchAnswer.TheVariants as search
 use Rattle.evaluation.specs.Evaluation.{currents_of}
 use Rattle.simulator.specs.Simulate.{SimulateArguments, given_sheet, simulate_answer, Simulated}
 use Rattle.search.specs.Agreement.{sharing, Agrees}
@@ -30,11 +29,11 @@ simulated_by given call = record { answered = refl; written = call.written; kept
 
 -- An accepted one found the currents of its pattern, and its numbers are theirs.
 module _ (given : SimulateArguments) {sheet' work' numbers : List ℕ} (call : SimulateCalled given sheet' work' numbers) (zero : refused_with numbers ≡ 0) where
-  answer_is : simulate_answer given ≡ currents.Found (currents_of given.table (given_sheet given))
+  answer_is : simulate_answer given ≡ Ok (currents_of given.table (given_sheet given))
   answer_is =
       ap (λ v. answer_after v (currents_of given.table (given_sheet given))) ((accepted_calls.simulate given _ _ _ call).zero_means zero)
 
-  found_by_lem : Simulated given (currents.Found (currents_of given.table (given_sheet given))) sheet' work'
+  found_by_lem : Simulated given (Ok (currents_of given.table (given_sheet given))) sheet' work'
   found_by_lem = subst (λ answer. Simulated given answer sheet' work') answer_is (simulated_by given call)
 
   drop_is : drop_answered numbers ≡ (currents_of given.table (given_sheet given)).drop
@@ -58,7 +57,7 @@ same_outcome a b e = sym (outcome_back a) ∙ ap outcome_with e ∙ outcome_back
 
 -- What an accepted search found agrees, so its numbers do.
 numbers_agree : (given : SearchArguments) (found : Found) (sheet pattern : List ℕ) → Agrees given found sheet pattern
-    → CallsAgree given sheet pattern (search_numbers (search.Found found))
+    → CallsAgree given sheet pattern (search_numbers (Ok found))
 numbers_agree given found sheet pattern agrees = record {
   draws_no_more = λ room bytes work simulated work' told call zero.
       agrees.draws_no_more room bytes work _ simulated work' (found_by_lem (sharing given room bytes work) call zero);
@@ -91,9 +90,9 @@ numbers_agree given found sheet pattern agrees = record {
 pub calls_agree : CallsAgreement
 calls_agree given sheet' pattern' work' store' numbers call zero =
     let passed : search_verdict given ≡ Accepted = (accepted_calls.search given _ _ _ _ _ call).zero_means zero in
-    let found_is : call.answer ≡ search.Found (found_by given) =
+    let found_is : call.answer ≡ Ok (found_by given) =
     call.searched.answered ∙ ap (λ v. search_answer_after v (found_by given)) passed in
-    let searched : Searched given (search.Found (found_by given)) sheet' pattern' work' store' =
+    let searched : Searched given (Ok (found_by given)) sheet' pattern' work' store' =
     subst (λ answer. Searched given answer sheet' pattern' work' store') found_is call.searched in
     subst (CallsAgree given sheet' pattern') (sym (call.numbered ∙ ap search_numbers found_is))
     (numbers_agree given (found_by given) sheet' pattern' (agreement given _ sheet' pattern' work' store' searched))

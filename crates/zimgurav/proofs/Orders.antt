@@ -1,5 +1,7 @@
 -- What the calls of the makers leave in the lent list, and what their lists are to the search.
 -- Assumes nothing.
+use Rattle.std.specs.Prelude.{Ok, Err}
+use Rattle.block.specs.Verdict.{Verdict, Accepted}
 use Prim.Native.Nat.{ℕ}
 use mathlib.Core.Bool.{true}
 use mathlib.Core.List.{List}
@@ -10,12 +12,10 @@ use Rattle.block.specs.Block.{frame, input_count, cone_size}
 use Rattle.block.specs.Record.{File}
 use Rattle.block.specs.Refusals.{read_checks}
 use Rattle.block.specs.Verdict.{verdict}
-use Rattle.block.specs.declared.Verdict.{Verdict}
-use Rattle.block.specs.declared.Verdict.TheVariants.{Accepted, Refused}
 use Rattle.block.proofs.Frames.{frame_long}
 use Rattle.operation.specs.Numbers.{order_numbers}
-use Rattle.operation.specs.Operation.{buffer_after}
-use Rattle.operation.specs.SplitOrder.{names_each, list_bytes, order_after, list_after}
+use Rattle.operation.specs.Operation.{answer_after, buffer_after}
+use Rattle.operation.specs.SplitOrder.{names_each, list_bytes, split_order, list_after}
 use Rattle.operation.specs.declared.SplitOrder.{SplitOrder}
 use Rattle.cases.specs.Choice.{first_undecided}
 use Rattle.cases.specs.Search.{search}
@@ -31,26 +31,25 @@ use Rattle.zimgurav.specs.Orders.{list_in, MakersServe}
 use Rattle.zimgurav.proofs.Accepted.{accepted_calls}
 
 -- The lent list goes by the verdict, as any lent buffer.
-list_after_lem : (v : Verdict) (order given : List ℕ)
-    → list_after (order_after v order).answer (order_after v order).nets given ≡ buffer_after v (list_bytes order) given
-list_after_lem Accepted order given = refl
-list_after_lem (Refused r) order given = refl
+list_after_lem : (v : Verdict) (order given : List ℕ) → list_after (answer_after v (split_order order)) given ≡ buffer_after v (list_bytes order) given
+list_after_lem (Ok _) order given = refl
+list_after_lem (Err r) order given = refl
 
-module _ (file : File) (order : List ℕ) {made : SplitOrder} {order' numbers : List ℕ} (is : made ≡ cone_order_made file)
-    (listed : order' ≡ list_after made.answer made.nets order) (told : numbers ≡ order_numbers made.answer) where
+module _ (file : File) (order : List ℕ) {made : Result SplitOrder Refusal} {order' numbers : List ℕ} (is : made ≡ cone_order_made file)
+    (listed : order' ≡ list_after made order) (told : numbers ≡ order_numbers made) where
   pub cone_called : ConeOrderCalled file order order' numbers
   unfolding cone_order_made
   cone_called = record {
-    answered = told ∙ ap (λ (m : SplitOrder). order_numbers m.answer) is;
-    written = listed ∙ ap (λ (m : SplitOrder). list_after m.answer m.nets order) is ∙ list_after_lem (verdict (read_checks file)) (cone_order file) order;
+    answered = told ∙ ap order_numbers is;
+    written = listed ∙ ap (λ m. list_after m order) is ∙ list_after_lem (verdict (read_checks file)) (cone_order file) order;
   }
 
-module _ (given : BoundOrderArguments) (order : List ℕ) {made : SplitOrder} {work' order' numbers : List ℕ} (is : BoundOrdered given made work')
-    (listed : order' ≡ list_after made.answer made.nets order) (told : numbers ≡ order_numbers made.answer) where
+module _ (given : BoundOrderArguments) (order : List ℕ) {made : Result SplitOrder Refusal} {work' order' numbers : List ℕ} (is : BoundOrdered given made work')
+    (listed : order' ≡ list_after made order) (told : numbers ≡ order_numbers made) where
   pub bound_called : BoundOrderCalled given order work' order' numbers
   bound_called = record {
-    answered = told ∙ ap (λ (m : SplitOrder). order_numbers m.answer) is.answered;
-    written = listed ∙ ap (λ (m : SplitOrder). list_after m.answer m.nets order) is.answered
+    answered = told ∙ ap order_numbers is.answered;
+    written = listed ∙ ap (λ m. list_after m order) is.answered
         ∙ list_after_lem (bound_order_verdict given) (frame_order given.file given.hops given.table) order;
     kept = is.kept;
   }

@@ -1,10 +1,9 @@
 -- When a call was accepted, by the first of its eight numbers (document 01, "Refusals in checking order"; operation/specs/Numbers.antt).
+use Rattle.block.specs.Verdict.{Verdict, Accepted}
 use Rattle.std.specs.Prelude.{ℕ, List, ◌≡◌, get_or}
 use Rattle.block.specs.Record.{File}
 use Rattle.block.specs.Refusals.{read_checks, read_of}
 use Rattle.block.specs.Verdict.{verdict}
-use Rattle.block.specs.declared.Verdict.{Verdict}
-use Rattle.block.specs.declared.Verdict.TheVariants.{Accepted}
 use Rattle.operation.specs.Numbers.{read_numbers}
 use Rattle.bench.specs.Bench.{BenchArguments, bench_verdict}
 use Rattle.simulator.specs.Simulate.{SimulateArguments, simulate_verdict}

@@ -1,16 +1,16 @@
 -- What the calls from C promise (document 01, "List of forms by place", and "What the checker must hold us to", 1; requests 1, 3 and 6):
 -- the eight numbers of the answer, and each buffer as the call leaves it.
+use Rattle.std.specs.Prelude.{Result, Ok, Err}
+use Rattle.block.specs.declared.verdict.Refusal.{Refusal}
+use Rattle.operation.specs.declared.Found.{Found}
 use Rattle.std.specs.Prelude.{ℕ, List, [], ◌∷◌, ◌≡◌}
 use Rattle.block.specs.Record.{File, net_count}
 use Rattle.block.specs.Refusals.{read_checks}
 use Rattle.block.specs.Verdict.{verdict}
-use Rattle.operation.specs.Numbers.{eight, refusal_numbers, currents_numbers, order_numbers, search_numbers}
-use Rattle.operation.specs.Operation.{buffer_after, WorkAfter}
-use Rattle.operation.specs.SplitOrder.{list_bytes, order_after}
-use Rattle.operation.specs.declared.SearchAnswer.{SearchAnswer}
-use Rattle.bench.specs.Bench.{BenchArguments, bench_records, bench_verdict, bench_answer_after, overlaid}
-use Rattle.bench.specs.declared.BenchAnswer.{BenchAnswer}
-use Rattle.bench.specs.declared.BenchAnswer.TheVariants as bench_answer
+use Rattle.operation.specs.Numbers.{answer_numbers, currents_numbers, order_numbers, search_numbers}
+use Rattle.operation.specs.Operation.{answer_after, buffer_after, WorkAfter}
+use Rattle.operation.specs.SplitOrder.{list_bytes, split_order}
+use Rattle.bench.specs.Bench.{BenchArguments, bench_records, bench_verdict, overlaid}
 use Rattle.sheet.specs.Sheet.{sheet_words}
 use Rattle.simulator.specs.Simulate as simulate
 use Rattle.envelope.specs.Envelope as envelope
@@ -23,13 +23,15 @@ abbrev pub version : ℕ
 version = 6
 
 -- Bench: the record count.
-abbrev pub bench_numbers : BenchAnswer → List ℕ
-bench_numbers (bench_answer.Count count) = eight (0 ∷ count ∷ [])
-bench_numbers (bench_answer.Refused r) = refusal_numbers r
+abbrev pub bench_values : ℕ → List ℕ
+bench_values count = count ∷ []
+
+abbrev pub bench_numbers : Result ℕ Refusal → List ℕ
+bench_numbers = answer_numbers bench_values
 
 -- Bench: the numbers of its answer, and its record buffer.
 pub record BenchCalled (given : BenchArguments) (records' numbers : List ℕ) : Type 0 where
-  pub answered : numbers ≡ bench_numbers (bench_answer_after (bench_verdict given) (net_count (bench_records given)))
+  pub answered : numbers ≡ bench_numbers (answer_after (bench_verdict given) (net_count (bench_records given)))
   pub written : records' ≡ buffer_after (bench_verdict given) (overlaid (bench_records given) given.records) given.records
 
 -- Envelope: the numbers of its answer, and its buffers.
@@ -46,17 +48,17 @@ pub record SimulateCalled (given : simulate.SimulateArguments) (sheet' work' num
 
 -- The first maker of a list of inputs: the numbers of its answer, and the lent list.
 pub record ConeOrderCalled (file : File) (order order' numbers : List ℕ) : Type 0 where
-  pub answered : numbers ≡ order_numbers (cone_order_made file).answer
+  pub answered : numbers ≡ order_numbers (cone_order_made file)
   pub written : order' ≡ buffer_after (verdict (read_checks file)) (list_bytes (cone_order file)) order
 
 -- The second maker: the numbers of its answer, the lent list, and its work buffer.
 pub record BoundOrderCalled (given : BoundOrderArguments) (order work' order' numbers : List ℕ) : Type 0 where
-  pub answered : numbers ≡ order_numbers (order_after (bound_order_verdict given) (frame_order given.file given.hops given.table)).answer
+  pub answered : numbers ≡ order_numbers (answer_after (bound_order_verdict given) (split_order (frame_order given.file given.hops given.table)))
   pub written : order' ≡ buffer_after (bound_order_verdict given) (list_bytes (frame_order given.file given.hops given.table)) order
   pub kept : WorkAfter (bound_order_verdict given) given.work work'
 
 -- Search: its promise holds with an answer whose numbers these are.
 pub record SearchCalled (given : SearchArguments) (sheet' pattern' work' store' numbers : List ℕ) : Type 0 where
-  pub answer : SearchAnswer
+  pub answer : Result Found Refusal
   pub searched : Searched given answer sheet' pattern' work' store'
   pub numbered : numbers ≡ search_numbers answer

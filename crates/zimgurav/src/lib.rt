@@ -1,72 +1,60 @@
 // The functions that C and Rust call. Each answer goes into a lent array of eight numbers.
 #![tactic(auto)]
 
-ghost use Rattle.std.specs.Prelude.{◌≡◌};
+ghost use Rattle.std.specs.Prelude.{ℕ, List, ◌∷◌, ◌≡◌};
 ghost use Rattle.block.specs.Refusals.{read_of};
-ghost use Rattle.operation.specs.Numbers.{refusal_numbers, read_numbers, currents_numbers, order_numbers, outcome_number, search_numbers};
+ghost use Rattle.operation.specs.Numbers.{eight, answer_numbers, counts_values, currents_values, order_values, found_values, read_numbers, outcome_number};
 ghost use Rattle.operation.specs.SplitOrder.{list_after};
-ghost use Rattle.zimgurav.specs.Calls.{version, bench_numbers, BenchCalled, EnvelopeCalled, SimulateCalled, ConeOrderCalled, BoundOrderCalled, SearchCalled};
+ghost use Rattle.zimgurav.specs.Calls.{version, bench_values, BenchCalled, EnvelopeCalled, SimulateCalled, ConeOrderCalled, BoundOrderCalled, SearchCalled};
 
-use bench::BenchAnswer;
-use block::{ReadAnswer, Refusal};
-use operation::{CurrentsAnswer, OrderAnswer, Outcome, SearchAnswer};
+use block::{Counts, Refusal};
+use operation::{Currents, Found, Outcome, SplitOrder};
 use sheet::Word;
 use split_order::{by_bounds, by_cone};
 
-// A refusal as eight numbers.
-fn refusal_numbers(r: Refusal) -> [u64; 8]
-    ensures { result ≡ refusal_numbers r }
-{
-    [r.number, r.place, 0, 0, 0, 0, 0, 0]
+// What an accepted call finds, as numbers.
+trait Numbered: Copy {
+    // Its values, in the order in which they are answered.
+    ghost values: { Self → List ℕ };
+
+    // Eight numbers: 0 and the values, 0 past them.
+    fn numbers(self) -> [u64; 8]
+        ensures { result ≡ eight (0 ∷ values self) };
 }
 
-// Read's answer as eight numbers.
-fn read_numbers(answer: ReadAnswer) -> [u64; 8]
-    ensures { result ≡ read_numbers answer }
-{
-    match answer {
-        ReadAnswer::Counts { nets, inputs } => [0, nets, inputs, 0, 0, 0, 0, 0],
-        ReadAnswer::Refused(r) => refusal_numbers(r),
+// Read: the counts of nets and inputs.
+impl Numbered for Counts {
+    ghost values = { counts_values };
+
+    fn numbers(self) -> [u64; 8] {
+        [0, self.nets as u64, self.inputs as u64, 0, 0, 0, 0, 0]
     }
 }
 
-// Bench's answer as eight numbers.
-fn bench_numbers(answer: BenchAnswer) -> [u64; 8]
-    ensures { result ≡ bench_numbers answer }
-{
-    match answer {
-        BenchAnswer::Count(count) => [0, count, 0, 0, 0, 0, 0, 0],
-        BenchAnswer::Refused(r) => refusal_numbers(r),
+// Bench: how many records there are.
+impl Numbered for usize {
+    ghost values = { bench_values };
+
+    fn numbers(self) -> [u64; 8] {
+        [0, self as u64, 0, 0, 0, 0, 0, 0]
     }
 }
 
-// Envelope's or Simulate's answer as eight numbers.
-fn currents_numbers(answer: CurrentsAnswer) -> [u64; 8]
-    ensures { result ≡ currents_numbers answer }
-{
-    match answer {
-        CurrentsAnswer::Found(currents) => [0, currents.drop, currents.quiet, 0, 0, 0, 0, 0],
-        CurrentsAnswer::Refused(r) => refusal_numbers(r),
+// Envelope and Simulate: the drop and the quiet tick.
+impl Numbered for Currents {
+    ghost values = { currents_values };
+
+    fn numbers(self) -> [u64; 8] {
+        [0, self.drop, self.quiet, 0, 0, 0, 0, 0]
     }
 }
 
-// The answer of a maker of a list of inputs as eight numbers.
-fn order_numbers(answer: OrderAnswer) -> [u64; 8]
-    ensures { result ≡ order_numbers answer }
-{
-    match answer {
-        OrderAnswer::Inputs(inputs) => [0, inputs, 0, 0, 0, 0, 0, 0],
-        OrderAnswer::Refused(r) => refusal_numbers(r),
-    }
-}
+// A maker of a list of inputs: how many inputs it names.
+impl Numbered for SplitOrder {
+    ghost values = { order_values };
 
-// The lent list after a maker's call: the maker's list, or as it was where the call was refused.
-fn list_after(answer: OrderAnswer, made: [u8; 64], given: [u8; 64]) -> [u8; 64]
-    ensures { result ≡ list_after answer made given }
-{
-    match answer {
-        OrderAnswer::Inputs(_) => made,
-        OrderAnswer::Refused(_) => given,
+    fn numbers(self) -> [u64; 8] {
+        [0, self.inputs as u64, 0, 0, 0, 0, 0, 0]
     }
 }
 
@@ -81,26 +69,41 @@ fn outcome_number(outcome: Outcome) -> u64
     }
 }
 
-// Search's answer as eight numbers.
-fn search_numbers(answer: SearchAnswer) -> [u64; 8]
-    ensures { result ≡ search_numbers answer }
+// Search: outcome, U, L, splits, cases and the quiet tick.
+impl Numbered for Found {
+    ghost values = { found_values };
+
+    fn numbers(self) -> [u64; 8] {
+        [
+            0,
+            outcome_number(self.outcome),
+            self.upper,
+            self.lower,
+            self.splits,
+            self.cases,
+            self.quiet,
+            0,
+        ]
+    }
+}
+
+// An answer as eight numbers: what the call found, or the number and the place of its refusal.
+fn answer_numbers<T: Numbered>(answer: Result<T, Refusal>) -> [u64; 8]
+    ensures { result ≡ answer_numbers T.values answer }
 {
     match answer {
-        SearchAnswer::Found(found) => {
-            let outcome = found.outcome;
-            let number = outcome_number(outcome);
-            [
-                0,
-                number,
-                found.upper,
-                found.lower,
-                found.splits,
-                found.cases,
-                found.quiet,
-                0,
-            ]
-        }
-        SearchAnswer::Refused(r) => refusal_numbers(r),
+        Ok(found) => found.numbers(),
+        Err(r) => [r.reason.number(), r.place, 0, 0, 0, 0, 0, 0],
+    }
+}
+
+// The lent list after a maker's call: the maker's list, or as it was where the call was refused.
+fn list_after(made: Result<SplitOrder, Refusal>, given: [u8; 64]) -> [u8; 64]
+    ensures { result ≡ list_after made given }
+{
+    match made {
+        Ok(list) => list.nets,
+        Err(_) => given,
     }
 }
 
@@ -118,7 +121,7 @@ pub extern "C" fn zimgurav_version() -> u64
 pub extern "C" fn zimgurav_read(file: &[u8], answer: &mut [u64; 8])
     ensures { answer.new ≡ read_numbers (read_of file.now) }
 {
-    *answer = read_numbers(block::read(file));
+    *answer = answer_numbers(block::read(file));
 }
 
 // Bench: the records of a bench text, which go into the record buffer, and their count, or the refusal.
@@ -131,7 +134,7 @@ pub extern "C" fn zimgurav_bench(
 )
     ensures { BenchCalled (record { text = text.now; list = list.now; records = records.old }) records.new answer.new }
 {
-    *answer = bench_numbers(bench::bench(text, list, records));
+    *answer = answer_numbers(bench::bench(text, list, records));
 }
 
 // Envelope: the drop and the quiet tick of the frame's envelope, which goes into the sheet, or the refusal.
@@ -146,7 +149,7 @@ pub extern "C" fn zimgurav_envelope(
 )
     ensures { EnvelopeCalled (record { file = file.now; hops = hops; table = table.now; sheet = sheet.old; work = work.old }) sheet.new work.new answer.new }
 {
-    *answer = currents_numbers(envelope::envelope(file, hops, table, sheet, work));
+    *answer = answer_numbers(envelope::envelope(file, hops, table, sheet, work));
 }
 
 // Simulate: the drop and the quiet tick of a pattern's currents, which go into the sheet, or the refusal.
@@ -161,7 +164,7 @@ pub extern "C" fn zimgurav_simulate(
 )
     ensures { SimulateCalled (record { file = file.now; table = table.now; sheet = sheet.old; pattern = pattern.now; work = work.old }) sheet.new work.new answer.new }
 {
-    *answer = currents_numbers(simulator::simulate(file, table, sheet, pattern, work));
+    *answer = answer_numbers(simulator::simulate(file, table, sheet, pattern, work));
 }
 
 // The first maker of a list of inputs in the order to be split, by cone: how many inputs it names, or the refusal.
@@ -170,10 +173,8 @@ pub extern "C" fn zimgurav_cone_order(file: &[u8], order: &mut [u8; 64], answer:
     ensures { ConeOrderCalled file.now order.old order.new answer.new }
 {
     let made = by_cone::cone_order(file);
-    let told = made.answer;
-    let nets = made.nets;
-    *order = list_after(told, nets, *order);
-    *answer = order_numbers(told);
+    *order = list_after(made, *order);
+    *answer = answer_numbers(made);
 }
 
 // The second maker, by the bounds of each input's children: how many inputs its list names, or the refusal.
@@ -189,10 +190,8 @@ pub extern "C" fn zimgurav_bound_order(
     ensures { BoundOrderCalled (record { file = file.now; hops = hops; table = table.now; work = work.old }) order.old work.new order.new answer.new }
 {
     let made = by_bounds::bound_order(file, hops, table, work);
-    let told = made.answer;
-    let nets = made.nets;
-    *order = list_after(told, nets, *order);
-    *answer = order_numbers(told);
+    *order = list_after(made, *order);
+    *answer = answer_numbers(made);
 }
 
 // Search: the outcome, U, L, splits and cases of the best-first search and the quiet tick of its final sheet, with its sheet, pattern and
@@ -213,7 +212,7 @@ pub extern "C" fn zimgurav_search(
 )
     ensures { SearchCalled (record { file = file.now; hops = hops; table = table.now; ratio = ratio; budget = budget; order = order.now; sheet = sheet.old; pattern = pattern.old; work = work.old; store = store.old }) sheet.new pattern.new work.new store.new answer.new }
 {
-    *answer = search_numbers(search::search(
+    *answer = answer_numbers(search::search(
         file, hops, table, ratio, budget, order, sheet, pattern, work, store,
     ));
 }

@@ -7,4 +7,4 @@ use Rattle.zimgurav.proofs.zimgurav_bench.Goals as goal
 pub returns : goal.returns
 returns c =
     let call = c.bench.ensures in
-    record { answered = c.bench_numbers.ensures ∙ ap bench_numbers call.answered; written = call.written }
+    record { answered = c.answer_numbers.ensures ∙ ap bench_numbers call.answered; written = call.written }

@@ -7,4 +7,4 @@ use Rattle.zimgurav.proofs.zimgurav_envelope.Goals as goal
 pub returns : goal.returns
 returns c =
     let call = c.envelope.ensures in
-    record { answered = c.currents_numbers.ensures ∙ ap currents_numbers call.answered; written = call.written; kept = call.kept }
+    record { answered = c.answer_numbers.ensures ∙ ap currents_numbers call.answered; written = call.written; kept = call.kept }

@@ -5,4 +5,4 @@ use Rattle.operation.specs.Numbers.{read_numbers}
 use Rattle.zimgurav.proofs.zimgurav_read.Goals as goal
 
 pub returns : goal.returns
-returns c = c.read_numbers.ensures ∙ ap read_numbers c.read.ensures
+returns c = c.answer_numbers.ensures ∙ ap read_numbers c.read.ensures
