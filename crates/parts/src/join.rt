@@ -71,6 +71,8 @@ pub fn join_parts(a: Part, b: Part, f: u8) -> Part
     requires { f < 16 }
     ensures { (k : ℕ) → set_at result k ≡ join_sets (numbered f) (set_at a k) (set_at b k) }
 {
+    // Form kept: docs/DECISIONS.md, "Words beside the table": words are joined by the number of any function of two levels, which is read
+    // off the table of joins.
     match f {
         1 => a.invert().and(b.invert()),
         2 => a.invert().and(b),

@@ -7,7 +7,7 @@ mod number;
 mod words;
 
 // A part of a row: the words of 64 sets.
-#[derive(Clone, Copy)]
+#[derive(Clone, Copy, Default)]
 pub struct Part {
     pub l: u64,
     pub h: u64,
