@@ -5,6 +5,7 @@ ghost use Rattle.excitation.specs.UncertaintySet.{decode};
 ghost use Rattle.parts.specs.Parts.{set_at};
 
 use super::Part;
+use excitation::Set;
 
 // The 64 bits d ticks later: the first d come from the word before.
 fn shift_word(before: u64, word: u64, d: u64) -> u64
@@ -30,9 +31,10 @@ fn choose_word(a: u64, b: u64, ticks: u64) -> u64
 
 impl Part {
     // The same set at 64 ticks.
-    pub fn held(code: u8) -> Part
-        ensures { (k : ℕ) → k < 64 → set_at result k ≡ decode code }
+    pub fn held(set: Set) -> Part
+        ensures { (k : ℕ) → k < 64 → set_at result k ≡ decode set.code }
     {
+        let code = set.code;
         Part {
             l: all_bits(code % 2 == 1),
             h: all_bits(code / 2 % 2 == 1),
