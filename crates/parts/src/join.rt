@@ -20,10 +20,10 @@ impl Part {
     }
 
     // Every set joined by AND.
-    fn and(self, b: Part) -> Part
-        ensures { (k : ℕ) → set_at result k ≡ join_sets ◌&&◌ (set_at self k) (set_at b k) }
+    fn and(self, other: Part) -> Part
+        ensures { (k : ℕ) → set_at result k ≡ join_sets ◌&&◌ (set_at self k) (set_at other k) }
     {
-        let a = self;
+        let (a, b) = (self, other);
         Part {
             l: (a.l & b.some()) | (b.l & a.some()) | (a.hl & b.lh) | (a.lh & b.hl),
             h: a.h & b.h,
@@ -33,10 +33,10 @@ impl Part {
     }
 
     // Every set joined by XOR.
-    fn xor(self, b: Part) -> Part
-        ensures { (k : ℕ) → set_at result k ≡ join_sets xor (set_at self k) (set_at b k) }
+    fn xor(self, other: Part) -> Part
+        ensures { (k : ℕ) → set_at result k ≡ join_sets xor (set_at self k) (set_at other k) }
     {
-        let a = self;
+        let (a, b) = (self, other);
         Part {
             l: (a.l & b.l) | (a.h & b.h) | (a.hl & b.hl) | (a.lh & b.lh),
             h: (a.l & b.h) | (a.h & b.l) | (a.hl & b.lh) | (a.lh & b.hl),

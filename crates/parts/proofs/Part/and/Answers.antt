@@ -7,4 +7,4 @@ use Rattle.parts.proofs.Part.and.Goals as goal
 
 pub returns : goal.returns
 unfolding set_at
-returns c k = simp (bit_and_lem, bit_or_lem, c.some.ensures, c.some-2.ensures) (and_sets_lem (set_at c.args.self k) (set_at c.args.b k))
+returns c k = simp (bit_and_lem, bit_or_lem, c.some.ensures, c.some-2.ensures) (and_sets_lem (set_at c.args.self k) (set_at c.args.other k))

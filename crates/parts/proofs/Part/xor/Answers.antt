@@ -7,4 +7,4 @@ use Rattle.parts.proofs.Part.xor.Goals as goal
 
 pub returns : goal.returns
 unfolding set_at
-returns c k = simp (bit_and_lem, bit_or_lem) (xor_sets_lem (set_at c.args.self k) (set_at c.args.b k))
+returns c k = simp (bit_and_lem, bit_or_lem) (xor_sets_lem (set_at c.args.self k) (set_at c.args.other k))
