@@ -1,9 +1,7 @@
 -- Joins by a formula of the members of two sets, tried on all of them: parts are joined by the same formulas, of words.
 -- Assumes nothing.
-use Prim.Native.Nat.{ℕ, ◌+◌, ◌<◌}
 use mathlib.Core.Bool.{Bool, true, false, ◌&&◌, ◌||◌, xor}
 use mathlib.Core.Path.{◌≡◌, refl}
-use native.Mathlib.Omega.{arith}
 use Rattle.bits.specs.Bits.{bit_at}
 use Rattle.excitation.specs.UncertaintySet.{UncertaintySet, member, join_sets, each, invert_set}
 use Rattle.excitation.proofs.Finite.{every_set, every_at, set_of}
@@ -136,9 +134,4 @@ pub by_0 : (s t : UncertaintySet) → join_sets (λ x y. false) s t ≡ join_set
 unfolding join_sets member numbered bit_at
 by_0 = agreed _ _ refl
 
--- A number that is none of the last five below a bound. (`omega` splits at most six of these at once.)
-pub five_less : {P : Type 0} (n f : ℕ)
-    → f < n + 5
-    → ((((P × (f ≡ n → ⊥)) × (f ≡ n + 1 → ⊥)) × (f ≡ n + 2 → ⊥)) × (f ≡ n + 3 → ⊥)) × (f ≡ n + 4 → ⊥)
-    → f < n
-five_less n f h none = omega (arith, none.1, none.0.1, none.0.0.1, none.0.0.0.1, none.0.0.0.0.1)
+pub ruleset by_numbers = (by_1, by_2, by_3, by_4, by_5, by_6, by_7, by_8, by_9, by_10, by_11, by_12, by_13, by_14, by_15)

@@ -67,6 +67,7 @@ impl Part {
 }
 
 // Every set joined by the function of two levels with the number f: 8 is AND, 14 OR, 6 XOR.
+#[tactic(auto, using(crate::proofs::Joins::by_numbers))]
 pub fn join_parts(a: Part, b: Part, f: u8) -> Part
     requires { f < 16 }
     ensures { (k : ℕ) → set_at result k ≡ join_sets (numbered f) (set_at a k) (set_at b k) }

@@ -4,7 +4,7 @@ use Prim.Native.Nat.{◌+◌, ◌-◌, ◌<◌}
 use mathlib.Core.Path.{ap, ap₂, sym, subst, ◌∙◌}
 use native.Mathlib.Omega.{arith}
 use lib.ListN.{drop}
-use Rattle.std.proofs.lemmas.List.{length-take}
+use Rattle.std.proofs.lemmas.List.{length-take, length-drop}
 use Rattle.excitation.specs.Excitation.{levels_of}
 use Rattle.excitation.specs.UncertaintySet.{decode, join_sets}
 use Rattle.excitation.proofs.Codes.{decode_code}
@@ -29,3 +29,8 @@ loop-source-preserved c =
     ap decode c.join-joined.ensures ∙ decode_code _
     ∙ ap₂ (join_sets (levels_of s.by)) c.loop-source.invariant (ap decode c.set_before-next.ensures ∙ ap (before_in s.work.now) pin)
     ∙ sym (joined_next (levels_of s.by) _ (c.loop-source.source-index + 1) (omega arith))
+
+pub returns : goal.returns
+returns c =
+    let all : c.loop-source.source-index + 1 ≡ c.args.gate.used = omega (arith, c.requires.0.some, c.requires.0.few, length-take (c.args.gate.used - 1) (drop 1 c.args.gate.pins), length-drop 1 c.args.gate.pins) in
+    rw all at c.loop-source.invariant
