@@ -32,18 +32,18 @@ fn shorter(shortest: Between, end: usize, next: usize) -> Between
     shortest
 }
 
-// The shortest gap between the runs of a row, the earliest on a tie: the runs are walked from one to the next.
+// The shortest gap between the runs of a row that has several, the earliest on a tie: the runs are walked from one to the next.
 fn shortest_gap(row: &[u64]) -> Between
-    requires { length row.now ≡ 4 }
+    requires { (length row.now ≡ 4) × (2 ≤ length (runs_in row.now)) }
     ensures { gap_of result ≡ shortest_gap (runs_in row.now) }
 {
-    let mut shortest = Between {
-        start: 0,
-        size: 256,
-    };
     let first = runs::next_at(row, 0, true);
     let mut end = runs::next_at(row, first, false);
     let mut next = runs::next_at(row, end, true);
+    let mut shortest = Between {
+        start: end,
+        size: next - end,
+    };
     while next < 256 {
         shortest = shorter(shortest, end, next);
         end = runs::next_at(row, next, false);
@@ -67,10 +67,8 @@ fn fill_row(row: &mut [u64], count: usize, hops: usize)
     requires { (length row.old ≡ 4) × (count ≡ length (runs_in row.old)) × (1 ≤ hops) }
     ensures { RowFilled hops row.old row.new }
 {
-    let mut left = count;
-    while left > hops {
+    for _ in hops..count {
         fill_shortest(row);
-        left -= 1;
     }
 }
 
@@ -93,22 +91,13 @@ fn count_starts(work: &[u8], net: usize, last: usize) -> usize
     requires { HasRow work.now net × SettledAfter last (set_in work.now net) }
     ensures { (e : Excitation) → length (runs (held_in e work.now net)) ≤ result }
 {
-    let parts = runs::words_until(last);
     let mut count: usize = 0;
-    let mut before = Part {
-        l: 0,
-        h: 0,
-        hl: 0,
-        lh: 0,
-    };
-    let mut part: usize = 0;
-    while part < parts {
+    let mut before = Part::default();
+    for part in 0..runs::words_until(last) {
         let here = rows::read_part(work, net, part);
-        let levels = runs::starts(here.l, before.l) | runs::starts(here.h, before.h);
-        let edges = runs::starts(here.hl, before.hl) | runs::starts(here.lh, before.lh);
-        count += u64::count_ones(levels | edges) as usize;
+        let begun = here.zip(before, runs::starts).some();
+        count += begun.count_ones() as usize;
         before = here;
-        part += 1;
     }
     count
 }

@@ -1,17 +1,12 @@
--- Joins of parts are joins of the sets at each bit: a formula of the members of two sets, tried on all of them.
+-- Joins by a formula of the members of two sets, tried on all of them: parts are joined by the same formulas, of words.
 -- Assumes nothing.
-use Prim.Native.Nat.{ℕ, ◌+◌, ◌<◌}
 use mathlib.Core.Bool.{Bool, true, false, ◌&&◌, ◌||◌, xor}
 use mathlib.Core.Path.{◌≡◌, refl}
-use native.Mathlib.Omega.{arith}
-use lib.Bits.{bit_and, bit_or}
 use Rattle.bits.specs.Bits.{bit_at}
-use Rattle.bits.proofs.Bits.{bit_and_lem, bit_or_lem, bit_zero}
 use Rattle.excitation.specs.UncertaintySet.{UncertaintySet, member, join_sets, each, invert_set}
 use Rattle.excitation.proofs.Finite.{every_set, every_at, set_of}
 use Rattle.excitation.proofs.Sets.{same_set, same_set_lem}
-use Rattle.parts.specs.Parts.{set_at, numbered}
-use Rattle.parts.specs.declared.Part.{Part}
+use Rattle.parts.specs.Parts.{has_some, numbered}
 
 -- Two functions of two sets that give the same for all of them.
 abbrev agree : (UncertaintySet → UncertaintySet → UncertaintySet) → (UncertaintySet → UncertaintySet → UncertaintySet) → Bool
@@ -19,22 +14,6 @@ agree f g = every_set (λ s. every_set (λ t. same_set (f s t) (g s t)))
 
 agreed : (f g : UncertaintySet → UncertaintySet → UncertaintySet) → agree f g ≡ true → (s t : UncertaintySet) → f s t ≡ g s t
 agreed f g e s t = same_set_lem (f s t) (g s t) (every_at (λ t. same_set (f s t) (g s t)) (every_at (λ s. every_set (λ t. same_set (f s t) (g s t))) e s) t)
-
-infixl 30 ◌⊓◌
-infixl 20 ◌⊔◌
-abbrev ◌⊓◌ : ℕ → ℕ → ℕ
-◌⊓◌ = bit_and
-
-abbrev ◌⊔◌ : ℕ → ℕ → ℕ
-◌⊔◌ = bit_or
-
--- Whether a set has a member, and the bits at which a part's set has one.
-
-abbrev has_some : UncertaintySet → Bool
-has_some s = s.has_l || s.has_h || s.has_hl || s.has_lh
-
-abbrev some_part : Part → ℕ
-some_part a = a.l ⊔ a.h ⊔ a.hl ⊔ a.lh
 
 -- AND, by a formula of the members.
 
@@ -46,21 +25,9 @@ and_sets a b =
     (a.has_hl && (b.has_h || b.has_hl) || a.has_h && b.has_hl)
     (a.has_lh && (b.has_h || b.has_lh) || a.has_h && b.has_lh)
 
-and_sets_lem : (s t : UncertaintySet) → and_sets s t ≡ join_sets ◌&&◌ s t
+pub and_sets_lem : (s t : UncertaintySet) → and_sets s t ≡ join_sets ◌&&◌ s t
 unfolding join_sets member
 and_sets_lem = agreed and_sets (join_sets ◌&&◌) refl
-
-abbrev and_parts : Part → Part → Part
-and_parts a b = record {
-  l = a.l ⊓ some_part b ⊔ b.l ⊓ some_part a ⊔ a.hl ⊓ b.lh ⊔ a.lh ⊓ b.hl;
-  h = a.h ⊓ b.h;
-  hl = a.hl ⊓ (b.h ⊔ b.hl) ⊔ a.h ⊓ b.hl;
-  lh = a.lh ⊓ (b.h ⊔ b.lh) ⊔ a.h ⊓ b.lh;
-}
-
-pub and_at : (a b : Part) (k : ℕ) → set_at (and_parts a b) k ≡ join_sets ◌&&◌ (set_at a k) (set_at b k)
-unfolding set_at
-and_at a b k = simp (bit_and_lem, bit_or_lem) (and_sets_lem (set_at a k) (set_at b k))
 
 -- XOR.
 
@@ -72,21 +39,9 @@ xor_sets a b =
     (a.has_l && b.has_hl || a.has_hl && b.has_l || a.has_h && b.has_lh || a.has_lh && b.has_h)
     (a.has_l && b.has_lh || a.has_lh && b.has_l || a.has_h && b.has_hl || a.has_hl && b.has_h)
 
-xor_sets_lem : (s t : UncertaintySet) → xor_sets s t ≡ join_sets xor s t
+pub xor_sets_lem : (s t : UncertaintySet) → xor_sets s t ≡ join_sets xor s t
 unfolding join_sets member xor
 xor_sets_lem = agreed xor_sets (join_sets xor) refl
-
-abbrev xor_parts : Part → Part → Part
-xor_parts a b = record {
-  l = a.l ⊓ b.l ⊔ a.h ⊓ b.h ⊔ a.hl ⊓ b.hl ⊔ a.lh ⊓ b.lh;
-  h = a.l ⊓ b.h ⊔ a.h ⊓ b.l ⊔ a.hl ⊓ b.lh ⊔ a.lh ⊓ b.hl;
-  hl = a.l ⊓ b.hl ⊔ a.hl ⊓ b.l ⊔ a.h ⊓ b.lh ⊔ a.lh ⊓ b.h;
-  lh = a.l ⊓ b.lh ⊔ a.lh ⊓ b.l ⊔ a.h ⊓ b.hl ⊔ a.hl ⊓ b.h;
-}
-
-pub xor_at : (a b : Part) (k : ℕ) → set_at (xor_parts a b) k ≡ join_sets xor (set_at a k) (set_at b k)
-unfolding set_at
-xor_at a b k = simp (bit_and_lem, bit_or_lem) (xor_sets_lem (set_at a k) (set_at b k))
 
 -- Turning over.
 
@@ -102,30 +57,16 @@ invert_swaps s = same_set_lem (swapped s) (invert_set s) (every_at (λ s. same_s
 abbrev first_sets : UncertaintySet → UncertaintySet → UncertaintySet
 first_sets a b = set_of (a.has_l && has_some b) (a.has_h && has_some b) (a.has_hl && has_some b) (a.has_lh && has_some b)
 
-first_sets_lem : (s t : UncertaintySet) → first_sets s t ≡ join_sets (λ x y. x) s t
+pub first_sets_lem : (s t : UncertaintySet) → first_sets s t ≡ join_sets (λ x y. x) s t
 unfolding join_sets member
 first_sets_lem = agreed first_sets (join_sets (λ x y. x)) refl
-
-abbrev first_parts : Part → Part → Part
-first_parts a b = record { l = a.l ⊓ some_part b; h = a.h ⊓ some_part b; hl = a.hl ⊓ some_part b; lh = a.lh ⊓ some_part b }
-
-pub first_at : (a b : Part) (k : ℕ) → set_at (first_parts a b) k ≡ join_sets (λ x y. x) (set_at a k) (set_at b k)
-unfolding set_at
-first_at a b k = simp (bit_and_lem, bit_or_lem) (first_sets_lem (set_at a k) (set_at b k))
 
 abbrev low_sets : UncertaintySet → UncertaintySet → UncertaintySet
 low_sets a b = set_of (has_some a && has_some b) false false false
 
-low_sets_lem : (s t : UncertaintySet) → low_sets s t ≡ join_sets (λ x y. false) s t
+pub low_sets_lem : (s t : UncertaintySet) → low_sets s t ≡ join_sets (λ x y. false) s t
 unfolding join_sets member
 low_sets_lem = agreed low_sets (join_sets (λ x y. false)) refl
-
-abbrev low_parts : Part → Part → Part
-low_parts a b = record { l = some_part a ⊓ some_part b; h = 0; hl = 0; lh = 0 }
-
-pub low_at : (a b : Part) (k : ℕ) → set_at (low_parts a b) k ≡ join_sets (λ x y. false) (set_at a k) (set_at b k)
-unfolding set_at
-low_at a b k = simp (bit_and_lem, bit_or_lem, bit_zero) (low_sets_lem (set_at a k) (set_at b k))
 
 -- The functions of two levels by their numbers.
 
@@ -193,9 +134,4 @@ pub by_0 : (s t : UncertaintySet) → join_sets (λ x y. false) s t ≡ join_set
 unfolding join_sets member numbered bit_at
 by_0 = agreed _ _ refl
 
--- A number that is none of the last five below a bound. (`omega` splits at most six of these at once.)
-pub five_less : {P : Type 0} (n f : ℕ)
-    → f < n + 5
-    → ((((P × (f ≡ n → ⊥)) × (f ≡ n + 1 → ⊥)) × (f ≡ n + 2 → ⊥)) × (f ≡ n + 3 → ⊥)) × (f ≡ n + 4 → ⊥)
-    → f < n
-five_less n f h none = omega (arith, none.1, none.0.1, none.0.0.1, none.0.0.0.1, none.0.0.0.0.1)
+pub ruleset by_numbers = (by_1, by_2, by_3, by_4, by_5, by_6, by_7, by_8, by_9, by_10, by_11, by_12, by_13, by_14, by_15)

@@ -4,9 +4,10 @@
 mod delay;
 mod join;
 mod number;
+mod words;
 
 // A part of a row: the words of 64 sets.
-#[derive(Clone, Copy)]
+#[derive(Clone, Copy, Default)]
 pub struct Part {
     pub l: u64,
     pub h: u64,
@@ -14,6 +15,5 @@ pub struct Part {
     pub lh: u64,
 }
 
-pub use delay::{choose_part, differing, held_part, settled_part, shift_part};
-pub use join::{invert_part, join_parts};
+pub use join::join_parts;
 pub use number::function_number;

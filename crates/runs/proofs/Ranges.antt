@@ -1,6 +1,6 @@
 -- Ranges of ticks set in a row, a word at a time.
 -- Assumes nothing.
-use Prim.Native.Nat.{ℕ, ◌+◌, ◌-◌, ◌*◌, ◌/◌, ◌%◌, ◌^◌, ◌≤◌, ◌<◌, min}
+use Prim.Native.Nat.{ℕ, ◌+◌, ◌-◌, ◌*◌, ◌/◌, ◌%◌, ◌^◌, ◌≤◌, ◌<◌}
 use mathlib.Core.Bool.{not, ◌&&◌, ◌||◌, and_comm}
 use mathlib.Core.List.{List}
 use mathlib.Core.Path.{◌≡◌, refl, ap, ap₂, ◌∙◌}
@@ -9,18 +9,11 @@ use lib.Bits.{bit_and, bit_or}
 use lib.Dec.{eqb, leb, ltb}
 use lib.ListN.{length, get_or, set, length-set}
 use lib.Seq.{get_or-set_same, get_or-set_other}
-use borrow.Author.Tests.{eqb-true, eqb-false, ltb-true, ltb-false, lt-ltb, le-ltb, le-leb, lt-leb}
+use borrow.Author.Tests.{eqb-true, eqb-false, ltb-true, ltb-false, le-leb, lt-leb}
 use borrow.Table.Steps.{cases}
 use Rattle.bits.specs.Bits.{bit_at, row_bit}
 use Rattle.bits.proofs.Bits.{bit_and_lem, bit_or_lem, bit_not}
 use Rattle.runs.specs.Rows.{RangeSet}
-
--- A tick is before another by its place in the word.
-pub before_in_word : (tick w j : ℕ) → j < 64 → ltb j (min (tick - 64 * w) 64) ≡ ltb (64 * w + j) tick
-before_in_word tick w j h =
-    cases (ltb (64 * w + j) tick)
-    (λ t. let l = ltb-true (64 * w + j) tick t in rw t (lt-ltb j (min (tick - 64 * w) 64) (omega arith)))
-    (λ t. let l = ltb-false (64 * w + j) tick t in rw t (le-ltb j (min (tick - 64 * w) 64) (omega arith)))
 
 not_before : (t from : ℕ) → not (ltb t from) ≡ leb from t
 not_before t from =
@@ -35,9 +28,6 @@ module _ (from to : ℕ) (given : List ℕ) where
     pub done : (i j : ℕ) → i < w → j < 64
         → bit_at (get_or row i 0) j ≡ (bit_at (get_or given i 0) j || (leb from (64 * i + j) && ltb (64 * i + j) to))
     pub rest : (i : ℕ) → w ≤ i → get_or row i 0 ≡ get_or given i 0
-
-  pub range_none : RangeSoFar 0 given
-  range_none = record { long = refl; done = λ i j low high. absurd (omega arith); rest = λ i low. refl }
 
   -- One word more: its bits before tick `to` and not before tick `from`.
   module _ (w a b : ℕ) (row : List ℕ) (so_far : RangeSoFar w row) (within : w < length row) (fits : b < 2 ^ 64)

@@ -11,12 +11,14 @@ pub fn next_at(row: &[u64], from: usize, level: bool) -> usize
     requires { (length row.now ≡ 4) × (from ≤ 256) }
     ensures { NextAt level row.now from result }
 {
-    let flip = if level { 0 } else { 0xffff_ffff_ffff_ffff };
+    let flip = if level { 0 } else { u64::MAX };
     let mut at = from;
+    // Form kept: the new form is no plainer: `at` goes from a tick to the start of the next word, and a `for` over the words would carry that
+    // tick beside its own index.
     while at < 256 {
         let word = (row[at / 64] ^ flip) >> (at % 64);
         if word != 0 {
-            return at + (u64::trailing_zeros(word) as usize);
+            return at + (word.trailing_zeros() as usize);
         }
         at = 64 * (at / 64 + 1);
     }
@@ -35,10 +37,7 @@ pub fn starts(word: u64, before: u64) -> u64
 pub fn words_until(last: usize) -> usize
     ensures { result ≡ min ((last + 1) / 64 + 1) 4 }
 {
-    if last < 255 {
-        return (last + 1) / 64 + 1;
-    }
-    4
+    (last.saturating_add(1) / 64 + 1).min(4)
 }
 
 // How many runs a row has that is the same after tick `last`: in each word the set bits whose bit before is clear are counted. None
@@ -47,33 +46,13 @@ pub fn count_runs(row: &[u64], last: usize) -> usize
     requires { (length row.now ≡ 4) × SettledAfter last (row_bit row.now) }
     ensures { result ≡ length (runs_in row.now) }
 {
-    let words = words_until(last);
     let mut count: usize = 0;
     let mut before: u64 = 0;
-    let mut w: usize = 0;
-    while w < words {
-        let word = row[w];
-        count += u64::count_ones(starts(word, before)) as usize;
+    for &word in &row[..words_until(last)] {
+        count += starts(word, before).count_ones() as usize;
         before = word;
-        w += 1;
     }
     count
-}
-
-// How many of the 64 ticks of a word are before a tick.
-fn within(tick: usize, w: usize) -> usize
-    requires { w < 4 }
-    ensures { result ≡ min (tick - 64 * w) 64 }
-{
-    let start = 64 * w;
-    if tick <= start {
-        return 0;
-    }
-    let n = tick - start;
-    if n < 64 {
-        return n;
-    }
-    64
 }
 
 // The word of the k lowest bits.
@@ -84,7 +63,7 @@ fn lowest(k: usize) -> u64
     if k < 64 {
         return (1 << k) - 1;
     }
-    0xffff_ffff_ffff_ffff
+    u64::MAX
 }
 
 // Of the 64 ticks of word w of a row, those before a tick.
@@ -92,7 +71,7 @@ pub fn ticks_before(tick: usize, w: usize) -> u64
     requires { w < 4 }
     ensures { (k : ℕ) → k < 64 → bit_at result k ≡ ltb (64 * w + k) tick }
 {
-    lowest(within(tick, w))
+    lowest(tick.saturating_sub(64 * w).min(64))
 }
 
 // Sets the ticks of a row from tick `from` to before tick `to`.
@@ -100,11 +79,7 @@ pub fn set_range(row: &mut [u64], from: usize, to: usize)
     requires { length row.old ≡ 4 }
     ensures { RangeSet from to row.old row.new }
 {
-    let mut w: usize = 0;
-    while w < 4 {
-        let before_to = ticks_before(to, w);
-        let before_from = ticks_before(from, w);
-        row[w] = row[w] | (before_to & !before_from);
-        w += 1;
+    for (w, word) in row.iter_mut().enumerate() {
+        *word |= ticks_before(to, w) & !ticks_before(from, w);
     }
 }

@@ -29,9 +29,6 @@ row_then rule net n m l w v same = record {
 abbrev pub held_after : ℕ → (ℕ → UncertaintySet) → UncertaintySet → ℕ → UncertaintySet
 held_after n given s t = cond (ltb t n) (given t) s
 
-pub held_none : (net : ℕ) (given : List ℕ) (n : ℕ) (s : UncertaintySet) → RowMade (held_after n (set_in given net) s) net n given given
-held_none net given n s = record { long = refl; sets = λ t h. rw (lt-ltb t n h) refl; rest = λ j o. refl }
-
 pub held_next : (net from part : ℕ) (settled : Part) {given now after : List ℕ} → from ≤ part → ((k : ℕ) → k < 64 → set_at settled k ≡ set_at settled 63)
     → RowMade (held_after (64 * from) (set_in given net) (set_at settled 63)) net (64 * part) given now
     → PartWritten settled (160 * net + 32 * part) now after

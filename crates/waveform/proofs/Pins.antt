@@ -1,10 +1,13 @@
 -- Laws of what a gate makes of its pins, joined one after the other.
 -- Assumes nothing.
-use Prim.Native.Nat.{ℕ, ◌+◌, ◌-◌, ◌≤◌}
+use Prim.Native.Nat.{ℕ, ◌+◌, ◌-◌, ◌≤◌, ◌<◌}
 use mathlib.Core.Bool.{true, false}
 use mathlib.Core.List.{List, [], ◌∷◌, foldl, foldl-append}
 use mathlib.Core.Path.{◌≡◌, refl, ap, sym, ◌∙◌}
 use native.Mathlib.Omega.{arith}
+use lib.ListN.{length, get_or, take, drop}
+use Rattle.std.proofs.lemmas.Grind.{get_or_after_one}
+use Rattle.std.proofs.lemmas.List.{length-take, get_or-take}
 use Rattle.laws.specs.Turn.{in_turn, list_below}
 use Rattle.laws.proofs.Turn.{list_next}
 use Rattle.excitation.specs.Excitation.{TwoLevel, levels_of}
@@ -13,7 +16,7 @@ use Rattle.excitation.specs.declared.Join.{Join}
 use Rattle.excitation.proofs.Codes.{decode_code}
 use Rattle.block.specs.Gate.{gate_value}
 use Rattle.block.specs.Kind.{kind_of, rule_of}
-use Rattle.block.specs.View.{pin_of}
+use Rattle.block.specs.View.{net_of, pin_of}
 use Rattle.block.specs.declared.Gate.{Gate}
 use Rattle.block.specs.declared.kind.Rule.{Rule}
 use Rattle.parts.specs.Parts.{set_at, numbered, number_of}
@@ -23,6 +26,18 @@ use Rattle.rows.specs.Rows.{set_in}
 use Rattle.waveform.specs.Pins.{joined_below, made_before, made_at, PartIs}
 use Rattle.waveform.specs.Rows.{before_in}
 use Rattle.waveform.specs.Waveform.{envelope, gate_from}
+
+-- The nets of a gate's first n pins, and of n pins from the second on, by their places.
+
+pub first_pins : (gate : Gate) (n i : ℕ) → i < length (take n gate.pins) → (get_or (take n gate.pins) i (net_of 0)).0 ≡ pin_of gate i
+first_pins gate n i low = ap (λ net. net.0) (get_or-take n gate.pins i (net_of 0) (omega (arith, length-take n gate.pins)))
+
+pub later_pins : (gate : Gate) (n i : ℕ) → i < length (take n (drop 1 gate.pins))
+    → (get_or (take n (drop 1 gate.pins)) i (net_of 0)).0 ≡ pin_of gate (i + 1)
+later_pins gate n i low =
+    let next : 1 + i ≡ i + 1 = omega arith in
+    ap (λ net. net.0) (get_or-take n (drop 1 gate.pins) i (net_of 0) (omega (arith, length-take n (drop 1 gate.pins))))
+    ∙ ap (λ net. net.0) (get_or_after_one gate.pins i (net_of 0)) ∙ ap (pin_of gate) next
 
 module _ (f : TwoLevel) (on_pin : ℕ → UncertaintySet) where
   -- One pin alone.

@@ -15,9 +15,8 @@ use Rattle.block.specs.declared.Gate.{Gate}
 use Rattle.parts.specs.Parts.{set_at}
 use Rattle.parts.specs.declared.Part.{Part}
 use Rattle.rows.specs.Rows.{set_in, PartWritten, RowMade}
-use Rattle.rows.proofs.Rows.{part_before, row_next, row_unread, row_room, first_before, next_before, delayed_part}
+use Rattle.rows.proofs.Rows.{part_before, row_next, row_unread, first_before, next_before, delayed_part}
 use Rattle.waveform.specs.Pins.{made_before, made_at, PartIs, raw_at, held_from, RowReady}
-use Rattle.waveform.specs.Rows.{HasPinRows}
 use Rattle.waveform.specs.Waveform.{envelope, gate_from}
 use Rattle.waveform.proofs.Gates.{gate_same}
 use Rattle.waveform.proofs.Held.{row_then}
@@ -61,9 +60,6 @@ module _ (gate : Gate) (given : List ℕ) (before : ℕ) where
 
 -- A row of raw sets made a part at a time, over the row that the gate's net had.
 module _ (gate : Gate) (net : ℕ) (given : List ℕ) where
-  pub pins_kept : (n : ℕ) {now : List ℕ} → RowMade (raw_at gate given) net n given now → HasPinRows given gate → HasPinRows now gate
-  pins_kept n w pins = record { some = pins.some; few = pins.few; row = λ p h. row_room _ net n w _ (pins.row p h) }
-
   -- What is made of the pins in the next part is what was made of them at first: this part is not written yet, of any net.
   made_unread : (part : ℕ) {now : List ℕ} → RowMade (raw_at gate given) net (64 * part) given now → part < 4
       → (k : ℕ) → k < 64 → made_at gate now (64 * part + k) ≡ made_at gate given (64 * part + k)

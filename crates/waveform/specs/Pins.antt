@@ -3,13 +3,15 @@ use Rattle.std.specs.Prelude.{ℕ, ◌+◌, ◌-◌, ◌*◌, ◌≤◌, ◌<◌
 use mathlib.Core.List.{List, foldl}
 use Rattle.laws.specs.Settled.{SettledAfter}
 use Rattle.laws.specs.Turn.{list_below}
-use Rattle.excitation.specs.Excitation.{TwoLevel}
+use Rattle.excitation.specs.Excitation.{TwoLevel, levels_of}
 use Rattle.excitation.specs.UncertaintySet.{UncertaintySet, join_sets}
+use Rattle.block.specs.Kind.{kind_of, rule_of}
 use Rattle.block.specs.View.{pin_of}
 use Rattle.block.specs.declared.Gate.{Gate}
-use Rattle.parts.specs.Parts.{set_at}
+use Rattle.parts.specs.Parts.{set_at, number_of}
 use Rattle.parts.specs.declared.Part.{Part}
 use Rattle.rows.specs.Rows.{HasRow, set_in}
+use Rattle.waveform.specs.declared.joining.Function.{Function}
 use Rattle.waveform.specs.Rows.{before_in, HasPinRows}
 use Rattle.waveform.specs.Waveform.{envelope, gate_from}
 
@@ -23,6 +25,12 @@ made_before gate work = gate_from (envelope 1) gate (λ p. before_in work (pin_o
 
 unfoldable pub made_at : Gate → List ℕ → ℕ → UncertaintySet
 made_at gate work t = gate_from (envelope 1) gate (λ p. set_in work (pin_of gate p) t)
+
+-- The function of a gate as the code has it: the number of its kind's join, and whether its kind turns the result over.
+pub record FunctionOf (gate : Gate) (function : Function) : Type 0 where
+  pub number : function.number ≡ number_of (levels_of (rule_of (kind_of gate.kind)).join)
+  pub small : function.number < 16
+  pub inverts : function.inverts ≡ (rule_of (kind_of gate.kind)).inverts
 
 -- 64 sets as a rule has them from tick `from` on.
 pub record PartIs (rule : ℕ → UncertaintySet) (from : ℕ) (part : Part) : Type 0 where

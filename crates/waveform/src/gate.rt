@@ -1,17 +1,17 @@
 // The waveform of a gate, from those of its pins.
 ghost use Rattle.std.specs.Prelude.{◌≡◌, ℕ, ◌-◌, ◌*◌, ◌≤◌, ◌<◌};
 ghost use Rattle.laws.specs.Settled.{SettledAfter};
-ghost use Rattle.excitation.specs.Excitation.{levels_of};
 ghost use Rattle.excitation.specs.Table.{join_table};
 ghost use Rattle.excitation.specs.UncertaintySet.{decode};
-ghost use Rattle.block.specs.Kind.{kind_of, rule_of};
-ghost use Rattle.parts.specs.Parts.{number_of, set_at};
+ghost use Rattle.parts.specs.Parts.{set_at};
 ghost use Rattle.rows.specs.Rows.{HasRow, set_in, RowMade};
-ghost use Rattle.waveform.specs.Pins.{made_before, made_at, PartIs, raw_at, held_from, RowReady};
+ghost use Rattle.waveform.specs.Pins.{made_before, made_at, FunctionOf, PartIs, raw_at, held_from, RowReady};
 ghost use Rattle.waveform.specs.Rows.{HasPinRows, latest_in, pins_last_in, LastChange, Ready, GateMade};
 
+use super::joining::Function;
 use super::{joining, row};
 use block::{Gate, Net};
+use excitation::Set;
 use parts::Part;
 
 // The greatest arrival of some nets, and the tick after which all of them stay the same.
@@ -28,40 +28,34 @@ fn latest_pin(gate: Gate, work: &[u8]) -> Latest
 {
     let mut arrival: usize = 0;
     let mut last: usize = 0;
-    let mut p: usize = 0;
-    while p < gate.used {
-        let source = gate.pins[p];
-        arrival = numbers::max_usize(arrival, row::arrival(work, source));
-        last = numbers::max_usize(last, row::last(work, source));
-        p += 1;
+    for &source in &gate.pins[..gate.used] {
+        arrival = arrival.max(row::arrival(work, source));
+        last = last.max(row::last(work, source));
     }
     Latest { arrival, last }
 }
 
 // Makes the first `parts` parts of the row of a gate's raw sets: its pins joined, turned over or not, later by its delay, 64 ticks at a
-// time with nothing written in between. Before its delay has passed it has the set of this code. Returns what it makes of its pins in
+// time with nothing written in between. Until its delay has passed it has the set before tick 0. Returns what it makes of its pins in
 // the last of these parts.
 fn make_parts(
     gate: Gate,
     work: &mut [u8],
     net: usize,
-    f: u8,
-    inverts: bool,
-    before: u8,
+    function: Function,
+    before: Set,
     parts: usize,
 ) -> Part
-    requires { RowReady net gate parts work.old × (f ≡ number_of (levels_of (rule_of (kind_of gate.kind)).join)) × (inverts ≡ (rule_of (kind_of gate.kind)).inverts) × (f < 16) × (decode before ≡ made_before gate work.old) }
+    requires { RowReady net gate parts work.old × FunctionOf gate function × (decode before.code ≡ made_before gate work.old) }
     ensures { RowMade (raw_at gate work.old) net (64 * parts) work.old work.new × PartIs (made_at gate work.old) (64 * (parts - 1)) result }
 {
     let d = gate.delay as u64;
-    let mut earlier = parts::held_part(before);
-    let mut part: usize = 0;
-    while part < parts {
-        let here = joining::gate_part(gate, work, f, inverts, part);
-        let moved = parts::shift_part(earlier, here, d);
+    let mut earlier = Part::held(before);
+    for part in 0..parts {
+        let here = joining::gate_part(gate, work, function, part);
+        let moved = here.shifted(earlier, d);
         rows::write_part(work, net, part, moved);
         earlier = here;
-        part += 1;
     }
     earlier
 }
@@ -74,12 +68,10 @@ fn hold_rest(work: &mut [u8], net: usize, earlier: Part, settled: Part, d: u64, 
     if parts > 3 {
         return;
     }
-    let first = parts::shift_part(earlier, settled, d);
+    let first = settled.shifted(earlier, d);
     rows::write_part(work, net, parts, first);
-    let mut part = parts + 1;
-    while part < 4 {
+    for part in parts + 1..4 {
         rows::write_part(work, net, part, settled);
-        part += 1;
     }
 }
 
@@ -89,16 +81,15 @@ fn make_row(
     gate: Gate,
     work: &mut [u8],
     net: usize,
-    f: u8,
-    inverts: bool,
-    before: u8,
+    function: Function,
+    before: Set,
     parts: usize,
 ) -> Part
-    requires { RowReady net gate parts work.old × (f ≡ number_of (levels_of (rule_of (kind_of gate.kind)).join)) × (inverts ≡ (rule_of (kind_of gate.kind)).inverts) × (f < 16) × (decode before ≡ made_before gate work.old) }
+    requires { RowReady net gate parts work.old × FunctionOf gate function × (decode before.code ≡ made_before gate work.old) }
     ensures { RowMade (raw_at gate work.old) net 256 work.old work.new × PartIs (λ t. made_at gate work.old 255) 0 result }
 {
-    let last = make_parts(gate, work, net, f, inverts, before, parts);
-    let settled = parts::settled_part(last);
+    let last = make_parts(gate, work, net, function, before, parts);
+    let settled = last.settled();
     hold_rest(work, net, last, settled, gate.delay as u64, parts);
     settled
 }
@@ -112,12 +103,10 @@ fn last_change(work: &[u8], net: usize, end: Part, bound: usize, arrival: usize)
     if arrival == 255 {
         return 255;
     }
-    let mut part = bound / 64 + 1;
-    while part > 0 {
-        part -= 1;
-        let other = parts::differing(rows::read_part(work, net, part), end);
+    for part in (0..bound / 64 + 1).rev() {
+        let other = rows::read_part(work, net, part).differing(end);
         if other != 0 {
-            return 64 * part + 63 - (u64::leading_zeros(other) as usize);
+            return 64 * part + 63 - (other.leading_zeros() as usize);
         }
     }
     0
@@ -133,15 +122,12 @@ pub fn gate_waveform(net: Net, gate: Gate, joins: &[u8], hops: usize, work: &mut
     let arrival = latest.arrival + gate.delay;
     let bound = latest.last + gate.delay;
     let before = joining::gate_before(gate, work, joins);
-    let rule = block::gate_rule(gate.kind);
-    let by = rule.join;
-    let f = parts::function_number(joins, by);
+    let function = Function::of(gate, joins);
     let settled = make_row(
         gate,
         work,
         net.0,
-        f,
-        rule.inverts,
+        function,
         before,
         (latest.last + 1) / 64 + 1,
     );

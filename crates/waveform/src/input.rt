@@ -17,23 +17,20 @@ fn input_part(before: Part, here: Part, after: Part, switching: usize, part: usi
 {
     let earlier = runs::ticks_before(switching, part);
     let until = runs::ticks_before(switching + 1, part);
-    parts::choose_part(before, parts::choose_part(here, after, until), earlier)
+    before.at_ticks(earlier, here.at_ticks(until, after))
 }
 
 // Makes the row of an input of a set.
-fn make_row(work: &mut [u8], net: usize, code: u8, switching: usize)
+fn make_row(work: &mut [u8], net: usize, set: Set, switching: usize)
     requires { HasRow work.old net × (switching < 256) }
-    ensures { RowMade (input_at switching (decode code)) net 256 work.old work.new }
+    ensures { RowMade (input_at switching (decode set.code)) net 256 work.old work.new }
 {
-    let set = Set { code };
-    let before = parts::held_part(set.held_before().code);
-    let here = parts::held_part(code);
-    let after = parts::held_part(set.held_after().code);
-    let mut part: usize = 0;
-    while part < 4 {
+    let before = Part::held(set.held_before());
+    let here = Part::held(set);
+    let after = Part::held(set.held_after());
+    for part in 0..4 {
         let sets = input_part(before, here, after, switching, part);
         rows::write_part(work, net, part, sets);
-        part += 1;
     }
 }
 
@@ -42,7 +39,7 @@ pub fn input_waveform(work: &mut [u8], net: Net, code: u8, switching: u8)
     requires { HasRow work.old net.0 × (code < 16) }
     ensures { InputMade net.0 switching code work.old work.new }
 {
-    make_row(work, net.0, code, numbers::usize_from_u8(switching));
     let set = Set { code };
-    row::write_ends(work, net, set.held_before().code, switching, switching);
+    make_row(work, net.0, set, usize::from(switching));
+    row::write_ends(work, net, set.held_before(), switching, switching);
 }

@@ -5,6 +5,7 @@ ghost use Rattle.rows.specs.Rows.{HasRow};
 ghost use Rattle.waveform.specs.Rows.{row_byte, arrival_in, last_in, EndsWritten};
 
 use block::Net;
+use excitation::Set;
 
 // Where the bytes of a net start.
 fn start(net: Net) -> usize
@@ -14,13 +15,15 @@ fn start(net: Net) -> usize
     160 * net.0
 }
 
-// The code of a net's set before tick 0.
-pub fn set_before(work: &[u8], net: Net) -> u8
+// A net's set before tick 0.
+pub fn set_before(work: &[u8], net: Net) -> Set
     requires { HasRow work.now net.0 }
-    ensures { result ≡ row_byte work.now net.0 128 }
+    ensures { result.code ≡ row_byte work.now net.0 128 }
 {
     let at = start(net);
-    work[at + 128]
+    Set {
+        code: work[at + 128],
+    }
 }
 
 // The arrival of a net.
@@ -29,7 +32,7 @@ pub fn arrival(work: &[u8], net: Net) -> usize
     ensures { (result ≡ arrival_in work.now net.0) × (result < 256) }
 {
     let at = start(net);
-    numbers::usize_from_u8(work[at + 129])
+    usize::from(work[at + 129])
 }
 
 // The tick after which the sets of a net are the same.
@@ -38,16 +41,16 @@ pub fn last(work: &[u8], net: Net) -> usize
     ensures { (result ≡ last_in work.now net.0) × (result < 256) }
 {
     let at = start(net);
-    numbers::usize_from_u8(work[at + 130])
+    usize::from(work[at + 130])
 }
 
 // Writes what stands beside a net's sets.
-pub fn write_ends(work: &mut [u8], net: Net, before: u8, arrival: u8, last: u8)
+pub fn write_ends(work: &mut [u8], net: Net, before: Set, arrival: u8, last: u8)
     requires { HasRow work.old net.0 }
-    ensures { EndsWritten net.0 before arrival last work.old work.new }
+    ensures { EndsWritten net.0 before.code arrival last work.old work.new }
 {
     let at = start(net);
-    work[at + 128] = before;
+    work[at + 128] = before.code;
     work[at + 129] = arrival;
     work[at + 130] = last;
 }

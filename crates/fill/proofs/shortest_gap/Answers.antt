@@ -6,7 +6,7 @@ use Rattle.fill.proofs.Walks.{walk_first, walk_on, walk_more, walk_done}
 use Rattle.fill.proofs.shortest_gap.Goals as goal
 
 pub loop-next-init : goal.loop-next-init
-loop-next-init c = walk_first _ _ _ _ c.next_at-first.ensures c.next_at-end.ensures c.next_at-next.ensures
+loop-next-init c = walk_first _ _ _ _ c.next_at-first.ensures c.next_at-end.ensures c.next_at-next.ensures c.requires.1
 
 pub loop-next-smaller : goal.loop-next-smaller
 loop-next-smaller c =

@@ -1,31 +1,16 @@
 -- `waveform::gate::gate_waveform` meets its contract.
 -- Assumes nothing.
 use Prim.Native.Nat.{◌+◌}
-use mathlib.Core.Path.{ap, ◌∙◌}
+use mathlib.Core.Path.{ap}
 use native.Mathlib.Omega.{arith}
-use Rattle.excitation.specs.Excitation.{levels_of}
-use Rattle.parts.specs.Parts.{number_of}
 use Rattle.rows.proofs.Rows.{row_room}
 use Rattle.waveform.proofs.Made.{in_time, row_ready, row_settled, row_end, gate_made}
-use Rattle.waveform.proofs.Rows.{pin_rows}
 use Rattle.waveform.proofs.Written.{filled_room}
 use Rattle.waveform.proofs.gate.gate_waveform.Goals as goal
 
-pub latest_pin-latest-requires : goal.latest_pin-latest-requires
-latest_pin-latest-requires c = pin_rows c.requires.0
-
-pub gate_before-before-requires : goal.gate_before-before-requires
-gate_before-before-requires c = (pin_rows c.requires.0, c.requires.2)
-
 pub make_row-settled-requires : goal.make_row-settled-requires
 make_row-settled-requires c =
-    let number = c.function_number-f.ensures in (
-      row_ready c.args.net.0 c.args.gate c.args.work.now c.requires.0 _ _ c.latest_pin-latest.ensures.0 c.latest_pin-latest.ensures.1,
-      number.0 ∙ ap (λ r. number_of (levels_of r.join)) c.gate_rule-rule.ensures,
-      ap (λ r. r.inverts) c.gate_rule-rule.ensures,
-      number.1,
-      c.gate_before-before.ensures,
-    )
+    (row_ready c.args.net.0 c.args.gate c.args.work.now c.requires.0 _ _ c.latest_pin-latest.ensures.0 c.latest_pin-latest.ensures.1, c.of-function.ensures, c.gate_before-before.ensures)
 
 pub fill-requires : goal.fill-requires
 fill-requires c =
@@ -49,18 +34,6 @@ last_change-last-requires c =
       soon.1,
       row_end c.args.net.0 c.args.gate c.args.work.now c.requires.0 _ _ latest.0 latest.1 _ _ row.0 c.fill.ensures row.1,
     )
-
-pub overflow_cast-arrival : goal.overflow_cast-arrival
-overflow_cast-arrival c =
-    omega (arith, c.requires.0.in_time, c.latest_pin-latest.ensures.0)
-
-pub overflow_cast-last : goal.overflow_cast-last
-overflow_cast-last c =
-    omega (arith, c.requires.0.in_time, c.latest_pin-latest.ensures.0, c.last_change-last.ensures.soon)
-
-pub write_ends-requires : goal.write_ends-requires
-write_ends-requires c =
-    filled_room c.fill.ensures (row_room _ _ _ c.make_row-settled.ensures.0 _ c.requires.0.room)
 
 pub returns : goal.returns
 returns c =

@@ -1,6 +1,6 @@
 -- `waveform::gate::make_parts` meets its contract.
 -- Assumes nothing.
-use Prim.Native.Nat.{◌-◌, ◌*◌, ◌≤◌}
+use Prim.Native.Nat.{◌*◌}
 use Rattle.rows.specs.Rows.{RowMade}
 use Rattle.waveform.specs.Pins.{raw_at}
 use Rattle.waveform.proofs.Raw.{Prior}
@@ -8,7 +8,4 @@ use Rattle.waveform.proofs.gate.make_parts.Given as goal
 
 abbrev pub invariant-loop-part : goal.invariant-loop-part
 invariant-loop-part l =
-    (l.part ≤ l.parts) × RowMade (raw_at l.gate l.initial.work) l.net (64 * l.part) l.initial.work l.work × Prior l.gate l.initial.work l.before l.part l.earlier
-
-abbrev pub decreases-loop-part : goal.decreases-loop-part
-decreases-loop-part l = l.parts - l.part
+    RowMade (raw_at l.gate l.initial.work) l.net (64 * l.part) l.initial.work l.work × Prior l.gate l.initial.work l.fn.before.code l.part l.earlier

@@ -8,5 +8,5 @@ returns c =
     let s = c.args in
     let made = c.make_parts-last.ensures in (
       raw_held s.gate s.net s.work.now s.parts _ c.requires.0 made.1 made.0 c.hold_rest.ensures,
-      settles_at s.gate s.net s.work.now s.parts _ c.requires.0 made.1 c.settled_part-settled.ensures,
+      settles_at s.gate s.net s.work.now s.parts _ c.requires.0 made.1 c.settled-settled.ensures,
     )

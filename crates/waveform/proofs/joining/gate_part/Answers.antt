@@ -4,13 +4,15 @@ use mathlib.Core.Path.{refl, sym, ◌∙◌}
 use Rattle.waveform.proofs.Pins.{part_joined, part_inverted}
 use Rattle.waveform.proofs.joining.gate_part.Goals as goal
 
-pub returns-then-inverts : goal.returns-then-inverts
-returns-then-inverts c =
-    part_inverted c.args.gate _ refl c.args.work.now c.args.f _ c.requires.1 _ c.join_part-joined.ensures _
-    c.invert_part.ensures
-    (sym c.requires.2 ∙ c.if-inverts.true)
+pub returns-then-function : goal.returns-then-function
+returns-then-function c =
+    let is = c.requires.1 in
+    part_inverted c.args.gate _ refl c.args.work.now c.args.function.number _ is.number _ c.join_part-joined.ensures _
+    c.invert.ensures
+    (sym is.inverts ∙ c.if-function.true)
 
-pub returns : goal.returns
-returns c =
-    part_joined c.args.gate _ refl c.args.work.now c.args.f _ c.requires.1 _ c.join_part-joined.ensures
-    (sym c.requires.2 ∙ c.if-inverts.false)
+pub returns-else-function : goal.returns-else-function
+returns-else-function c =
+    let is = c.requires.1 in
+    part_joined c.args.gate _ refl c.args.work.now c.args.function.number _ is.number _ c.join_part-joined.ensures
+    (sym is.inverts ∙ c.if-function.false)

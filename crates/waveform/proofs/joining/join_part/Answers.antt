@@ -1,50 +1,37 @@
 -- `waveform::joining::join_part` meets its contract.
 -- Assumes nothing.
-use mathlib.Core.Path.{◌≡◌, ap₂, sym, ◌∙◌}
+use Prim.Native.Nat.{◌+◌, ◌-◌, ◌*◌, ◌<◌}
+use mathlib.Core.Path.{◌≡◌, ap, ap₂, sym, subst, ◌∙◌}
 use native.Mathlib.Omega.{arith}
+use lib.ListN.{drop}
+use Rattle.std.proofs.lemmas.List.{length-take, length-drop}
 use Rattle.excitation.specs.UncertaintySet.{join_sets}
 use Rattle.parts.specs.Parts.{numbered}
-use Rattle.waveform.proofs.Pins.{joined_one, joined_next}
+use Rattle.rows.specs.Rows.{HasRow, set_in}
+use Rattle.waveform.proofs.Pins.{later_pins, joined_one, joined_next}
 use Rattle.waveform.proofs.joining.join_part.Goals as goal
 
-pub read_part-joined-requires : goal.read_part-joined-requires
-read_part-joined-requires c = let pre = c.requires in (pre.0.row 0 pre.0.some, pre.2)
-
-pub loop-p-init : goal.loop-p-init
-loop-p-init c =
-    let pre = c.requires in
-    (omega arith, pre.0.some, record { at = λ k l. c.read_part-joined.ensures k l ∙ sym (joined_one _ _) })
-
-pub offset_bounds-gate-p : goal.offset_bounds-gate-p
-offset_bounds-gate-p c = omega (arith, c.requires.0.few)
-
-pub bounds-gate-p : goal.bounds-gate-p
-bounds-gate-p c = omega (arith, c.requires.0.few)
+pub loop-source-init : goal.loop-source-init
+loop-source-init c = record { at = λ k l. c.read_part-joined.ensures k l ∙ sym (joined_one _ _) }
 
 pub read_part-next-requires : goal.read_part-next-requires
 read_part-next-requires c =
-    let pre = c.requires in
-    (pre.0.row c.loop-p.p c.loop-p-test.true, omega (arith, pre.2))
+    let pin = later_pins c.args.gate _ _ c.loop-source-test.true in
+    let low : c.loop-source.source-index + 1 < c.args.gate.used = omega (arith, length-take (c.args.gate.used - 1) (drop 1 c.args.gate.pins)) in
+    (subst (HasRow c.args.work.now) (sym pin) (c.requires.0.row (c.loop-source.source-index + 1) low), c.requires.2)
 
-pub join_parts-joined-requires : goal.join_parts-joined-requires
-join_parts-joined-requires c = c.requires.1
-
-pub overflow_add-p : goal.overflow_add-p
-overflow_add-p c = omega (arith, c.requires.0.few)
-
-pub loop-p-preserved : goal.loop-p-preserved
-loop-p-preserved c =
-    let s = c.args in (
-      omega arith,
-      omega arith,
-      record {
-        at = λ k l. c.join_parts-joined.ensures k ∙ ap₂ (join_sets (numbered s.f)) (c.loop-p.invariant.2.at k l) (c.read_part-next.ensures k l)
-            ∙ sym (joined_next (numbered s.f) _ c.loop-p.p c.loop-p.invariant.0);
-      },
-    )
+pub loop-source-preserved : goal.loop-source-preserved
+loop-source-preserved c =
+    let s = c.args in
+    let i = c.loop-source.source-index in
+    let pin = later_pins s.gate _ _ c.loop-source-test.true in
+    record {
+      at = λ k l. c.join_parts-joined.ensures k
+          ∙ ap₂ (join_sets (numbered s.f)) (c.loop-source.invariant.at k l) (c.read_part-next.ensures k l ∙ ap (λ net. set_in s.work.now net (64 * s.part + k)) pin)
+          ∙ sym (joined_next (numbered s.f) _ (i + 1) (omega arith));
+    }
 
 pub returns : goal.returns
 returns c =
-    let l = c.loop-p in
-    let e : l.p ≡ c.args.gate.used = omega arith in
-    rw e at l.invariant.2
+    let all : c.loop-source.source-index + 1 ≡ c.args.gate.used = omega (arith, c.requires.0.some, c.requires.0.few, length-take (c.args.gate.used - 1) (drop 1 c.args.gate.pins), length-drop 1 c.args.gate.pins) in
+    rw all at c.loop-source.invariant

@@ -1,9 +1,9 @@
--- `parts::delay::held_part` meets its contract.
+-- `parts::Part::held` meets its contract.
 -- Assumes nothing.
 use Rattle.excitation.proofs.Sets.{four_members}
 use Rattle.parts.specs.Parts.{set_at}
 use Rattle.excitation.specs.UncertaintySet.{decode}
-use Rattle.parts.proofs.delay.held_part.Goals as goal
+use Rattle.parts.proofs.Part.held.Goals as goal
 
 pub returns : goal.returns
 unfolding set_at decode

@@ -1,9 +1,0 @@
--- `parts::join::invert_part` meets its contract.
--- Assumes nothing.
-use Rattle.parts.specs.Parts.{set_at}
-use Rattle.parts.proofs.Joins.{invert_swaps}
-use Rattle.parts.proofs.join.invert_part.Goals as goal
-
-pub returns : goal.returns
-unfolding set_at
-returns c k = invert_swaps (set_at c.args.a k)
