@@ -16,11 +16,8 @@ fn most_resistance(table: &[u16], contact: usize) -> u64
 {
     let nodes = table.len() / 16;
     let mut most: u64 = 0;
-    let mut node: usize = 0;
-    while node < nodes {
-        let resistance = numbers::u64_from_u16(table[16 * node + contact]);
-        most = numbers::max_u64(most, resistance);
-        node += 1;
+    for node in 0..nodes {
+        most = most.max(u64::from(table[16 * node + contact]));
     }
     most
 }
@@ -30,10 +27,8 @@ fn add_contact(sums: &mut [u64], resistance: u64, sheet: &[Word], start: usize, 
     requires { SumsFit sums.old resistance sheet.now start stop }
     ensures { Rewritten (with_contact sums.old resistance sheet.now start) 0 stop sums.old sums.new }
 {
-    let mut t: usize = 0;
-    while t < stop {
+    for t in 0..stop {
         sums[t] = sums[t] + resistance * sheet[start + t];
-        t += 1;
     }
 }
 
@@ -42,11 +37,9 @@ fn bound_ticks(table: &[u16], sheet: &[Word], stop: usize, bounds: &mut [u64])
     requires { Droppable stop sheet.now × (bounds.old ≡ replicate 512 0) }
     ensures { Rewritten (bound_at table.now (sheet_in sheet.now)) 0 stop bounds.old bounds.new }
 {
-    let mut contact: usize = 0;
-    while contact < 16 {
+    for contact in 0..16 {
         let resistance = most_resistance(table, contact);
         add_contact(bounds, resistance, sheet, 512 * contact, stop);
-        contact += 1;
     }
 }
 
@@ -57,14 +50,12 @@ fn argmax(words: &[u64], n: usize) -> usize
 {
     let mut best: usize = 0;
     let mut most = words[0];
-    let mut i: usize = 1;
-    while i < n {
+    for i in 1..n {
         let here = words[i];
         if most < here {
             best = i;
             most = here;
         }
-        i += 1;
     }
     best
 }
@@ -75,11 +66,9 @@ fn node_drop(table: &[u16], node: usize, sheet: &[Word], t: usize) -> u64
     ensures { result ≡ drop_at table.now (sheet_in sheet.now) node t }
 {
     let mut sum: u64 = 0;
-    let mut contact: usize = 0;
-    while contact < 16 {
-        let resistance = numbers::u64_from_u16(table[16 * node + contact]);
+    for contact in 0..16 {
+        let resistance = u64::from(table[16 * node + contact]);
         sum += resistance * sheet[512 * contact + t];
-        contact += 1;
     }
     sum
 }
@@ -91,10 +80,8 @@ fn tick_drop(table: &[u16], sheet: &[Word], t: usize) -> u64
 {
     let nodes = table.len() / 16;
     let mut most: u64 = 0;
-    let mut node: usize = 0;
-    while node < nodes {
-        most = numbers::max_u64(most, node_drop(table, node, sheet, t));
-        node += 1;
+    for node in 0..nodes {
+        most = most.max(node_drop(table, node, sheet, t));
     }
     most
 }
@@ -111,12 +98,10 @@ pub fn greatest_drop(table: &[u16], sheet: &[Word], stop: usize) -> u64
     let mut bounds = [0u64; 512];
     bound_ticks(table, sheet, stop, &mut bounds);
     let mut most = tick_drop(table, sheet, argmax(&bounds, stop));
-    let mut t: usize = 0;
-    while t < stop {
+    for t in 0..stop {
         if most < bounds[t] {
-            most = numbers::max_u64(most, tick_drop(table, sheet, t));
+            most = most.max(tick_drop(table, sheet, t));
         }
-        t += 1;
     }
     most
 }

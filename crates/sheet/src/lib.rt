@@ -20,9 +20,5 @@ pub fn clear(sheet: &mut [Word])
     requires { length sheet.old ≡ 8192 }
     ensures { Cleared sheet.new }
 {
-    let mut i: usize = 0;
-    while i < 8192 {
-        sheet[i] = 0;
-        i += 1;
-    }
+    sheet.fill(0);
 }

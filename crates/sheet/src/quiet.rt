@@ -10,12 +10,10 @@ fn flows_at(sheet: &[Word], t: usize) -> bool
     requires { (length sheet.now ≡ 8192) × (t < 512) }
     ensures { result ≡ flows_at (sheet_in sheet.now) t }
 {
-    let mut contact: usize = 0;
-    while contact < 16 {
+    for contact in 0..16 {
         if sheet[512 * contact + t] != 0 {
             return true;
         }
-        contact += 1;
     }
     false
 }
@@ -25,9 +23,7 @@ pub fn quiet_tick(sheet: &[Word], stop: usize) -> usize
     requires { QuietFrom stop sheet.now }
     ensures { result ≡ quiet_tick (sheet_in sheet.now) }
 {
-    let mut t = stop;
-    while 0 < t {
-        t -= 1;
+    for t in (0..stop).rev() {
         if flows_at(sheet, t) {
             return t;
         }

@@ -33,7 +33,7 @@ loop-t-preserved c =
     let loop = c.loop-t in (
       omega arith,
       elim c.if-most-bounds.branch [
-        | then-most-bounds w ↦ tick_taken table sheet _ loop.t loop.invariant.1 w.tick_drop.ensures (w.most-is ∙ w.max_u64-most.ensures)
+        | then-most-bounds w ↦ tick_taken table sheet _ loop.t loop.invariant.1 w.tick_drop.ensures (w.most-is ∙ w.max-most.ensures)
         | else-most-bounds w ↦ tick_passed table sheet _ loop.t loop.invariant.1 (rewritten_first _ _ _ _ bounded loop.t (omega arith)) w.if-most-bounds.false w.most-is
       ],
     )

@@ -13,7 +13,7 @@ loop-node-init c = (omega arith, refl)
 pub loop-node-preserved : goal.loop-node-preserved
 loop-node-preserved c =
     let loop = c.loop-node in
-    (omega arith, c.max_u64-most.ensures ∙ rw (loop.invariant.1, c.u64_from_u16-resistance.ensures.0) (sym (max_next loop.node _)))
+    (omega arith, c.max-most.ensures ∙ rw (loop.invariant.1, c.from.ensures) (sym (max_next loop.node _)))
 
 pub returns : goal.returns
 unfolding most_resistance

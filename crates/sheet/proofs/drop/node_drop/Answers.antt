@@ -10,12 +10,12 @@ use Rattle.sheet.proofs.drop.node_drop.Goals as goal
 -- The sum with the contact is below the limit.
 sum_small : (c : goal.After-shared_slice_known-in-loop-contact-2-1)
     → c.loop-contact.sum
-    + c.u64_from_u16-resistance.result * get_or c.args.sheet.now (512 * c.loop-contact.contact + c.args.t) 0
+    + c.from-resistance.result * get_or c.args.sheet.now (512 * c.loop-contact.contact + c.args.t) 0
     < drop_limit
 sum_small c =
     let loop = c.loop-contact in
     node_small c.args.table.now c.args.sheet.now c.args.node c.args.t loop.contact loop.invariant.1
-    c.u64_from_u16-resistance.ensures.0 refl (omega arith)
+    c.from-resistance.ensures refl (omega arith)
     (λ i. omega (arith, c.type_inv.table i)) c.requires.1
 
 pub loop-contact-init : goal.loop-contact-init
@@ -31,7 +31,7 @@ overflow_add-sum-in-loop-contact c = omega (arith, sum_small c)
 pub loop-contact-preserved : goal.loop-contact-preserved
 loop-contact-preserved c =
     let loop = c.loop-contact in
-    (omega arith, node_next c.args.table.now c.args.sheet.now c.args.node c.args.t loop.contact loop.invariant.1 c.u64_from_u16-resistance.ensures.0 refl)
+    (omega arith, node_next c.args.table.now c.args.sheet.now c.args.node c.args.t loop.contact loop.invariant.1 c.from-resistance.ensures refl)
 
 pub returns : goal.returns
 unfolding drop_at

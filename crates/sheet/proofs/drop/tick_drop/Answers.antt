@@ -16,7 +16,7 @@ node_drop-requires c = (omega arith, c.requires)
 pub loop-node-preserved : goal.loop-node-preserved
 loop-node-preserved c =
     let loop = c.loop-node in
-    (omega arith, c.max_u64-most.ensures ∙ rw (loop.invariant.1, c.node_drop.ensures) (sym (max_next loop.node _)))
+    (omega arith, c.max-most.ensures ∙ rw (loop.invariant.1, c.node_drop.ensures) (sym (max_next loop.node _)))
 
 pub returns : goal.returns
 unfolding tick_drop

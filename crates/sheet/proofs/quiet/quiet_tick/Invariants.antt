@@ -7,6 +7,3 @@ use Rattle.sheet.proofs.quiet.quiet_tick.Given as goal
 
 abbrev pub invariant-loop-t : goal.invariant-loop-t
 invariant-loop-t l = (l.t ≤ l.stop) × (quiet_tick (sheet_in l.sheet) ≡ last_below l.t (flows_at (sheet_in l.sheet)))
-
-abbrev pub decreases-loop-t : goal.decreases-loop-t
-decreases-loop-t l = l.t

@@ -20,7 +20,7 @@ pub loop-t-preserved : goal.loop-t-preserved
 loop-t-preserved c =
     let loop = c.loop-t in
     let next = tick_restored (λ k. get_or c.args.sheet.now (c.args.start + k) 0) loop.t loop.invariant.1
-    (loop.invariant.2.rest (c.args.start + loop.t) (inr (omega arith))) c.wrapping_add_u64-current.ensures.value in (
+    (loop.invariant.2.rest (c.args.start + loop.t) (inr (omega arith))) refl in (
       omega arith,
       next.0,
       rewritten_next _ c.args.start loop.t _ _ _ _ refl (omega (arith, c.requires.0)) next.1 loop.invariant.2,
