@@ -19,7 +19,7 @@ tick_drop-most-requires c =
 
 pub loop-t-init : goal.loop-t-init
 unfolding max_below
-loop-t-init c = (omega arith, omega arith)
+loop-t-init c = omega arith
 
 pub tick_drop-requires : goal.tick_drop-requires
 tick_drop-requires c =
@@ -30,15 +30,13 @@ loop-t-preserved c =
     let table = c.args.table.now in
     let sheet = c.args.sheet.now in
     let bounded = c.bound_ticks.ensures in
-    let loop = c.loop-t in (
-      omega arith,
-      elim c.if-most-bounds.branch [
-        | then-most-bounds w ↦ tick_taken table sheet _ loop.t loop.invariant.1 w.tick_drop.ensures (w.most-is ∙ w.max-most.ensures)
-        | else-most-bounds w ↦ tick_passed table sheet _ loop.t loop.invariant.1 (rewritten_first _ _ _ _ bounded loop.t (omega arith)) w.if-most-bounds.false w.most-is
-      ],
-    )
+    let loop = c.loop-t in
+    elim c.if-most-bounds.branch [
+      | then-most-bounds w ↦ tick_taken table sheet _ loop.t loop.invariant w.tick_drop.ensures (w.most-is ∙ w.max-most.ensures)
+      | else-most-bounds w ↦ tick_passed table sheet _ loop.t loop.invariant (rewritten_first _ _ _ _ bounded loop.t (omega arith)) w.if-most-bounds.false w.most-is
+    ]
 
 pub returns : goal.returns
 returns c =
     let loop = c.loop-t in
-    ticks_all c.args.table.now c.args.sheet.now _ loop.t loop.invariant.1 c.requires (omega arith) c.argmax.ensures.1 c.tick_drop-most.ensures
+    ticks_all c.args.table.now c.args.sheet.now _ loop.t loop.invariant c.requires (omega arith) c.argmax.ensures.1 c.tick_drop-most.ensures

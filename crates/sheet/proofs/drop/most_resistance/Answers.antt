@@ -8,16 +8,16 @@ use Rattle.sheet.proofs.drop.most_resistance.Goals as goal
 
 pub loop-node-init : goal.loop-node-init
 unfolding max_below
-loop-node-init c = (omega arith, refl)
+loop-node-init c = refl
 
 pub loop-node-preserved : goal.loop-node-preserved
 loop-node-preserved c =
     let loop = c.loop-node in
-    (omega arith, c.max-most.ensures ∙ rw (loop.invariant.1, c.from.ensures) (sym (max_next loop.node _)))
+    c.max-most.ensures ∙ rw (loop.invariant, c.from.ensures) (sym (max_next loop.node _))
 
 pub returns : goal.returns
 unfolding most_resistance
 returns c =
     let loop = c.loop-node in
     let e : loop.node ≡ length c.args.table.now / 16 = omega arith in
-    rw e at loop.invariant.1
+    rw e at loop.invariant

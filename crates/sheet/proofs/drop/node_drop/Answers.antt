@@ -14,13 +14,13 @@ sum_small : (c : goal.After-shared_slice_known-in-loop-contact-2-1)
     < drop_limit
 sum_small c =
     let loop = c.loop-contact in
-    node_small c.args.table.now c.args.sheet.now c.args.node c.args.t loop.contact loop.invariant.1
+    node_small c.args.table.now c.args.sheet.now c.args.node c.args.t loop.contact loop.invariant
     c.from-resistance.ensures refl (omega arith)
     (λ i. omega (arith, c.type_inv.table i)) c.requires.1
 
 pub loop-contact-init : goal.loop-contact-init
 unfolding sum_below
-loop-contact-init c = (omega arith, refl)
+loop-contact-init c = refl
 
 pub overflow_mul-sum-in-loop-contact : goal.overflow_mul-sum-in-loop-contact
 overflow_mul-sum-in-loop-contact c = omega (arith, sum_small c)
@@ -31,11 +31,11 @@ overflow_add-sum-in-loop-contact c = omega (arith, sum_small c)
 pub loop-contact-preserved : goal.loop-contact-preserved
 loop-contact-preserved c =
     let loop = c.loop-contact in
-    (omega arith, node_next c.args.table.now c.args.sheet.now c.args.node c.args.t loop.contact loop.invariant.1 c.from-resistance.ensures refl)
+    node_next c.args.table.now c.args.sheet.now c.args.node c.args.t loop.contact loop.invariant c.from-resistance.ensures refl
 
 pub returns : goal.returns
 unfolding drop_at
 returns c =
     let loop = c.loop-contact in
     let e : loop.contact ≡ 16 = omega arith in
-    rw e at loop.invariant.1
+    rw e at loop.invariant

@@ -8,7 +8,7 @@ use Rattle.sheet.proofs.drop.tick_drop.Goals as goal
 
 pub loop-node-init : goal.loop-node-init
 unfolding max_below
-loop-node-init c = (omega arith, refl)
+loop-node-init c = refl
 
 pub node_drop-requires : goal.node_drop-requires
 node_drop-requires c = (omega arith, c.requires)
@@ -16,11 +16,11 @@ node_drop-requires c = (omega arith, c.requires)
 pub loop-node-preserved : goal.loop-node-preserved
 loop-node-preserved c =
     let loop = c.loop-node in
-    (omega arith, c.max-most.ensures ∙ rw (loop.invariant.1, c.node_drop.ensures) (sym (max_next loop.node _)))
+    c.max-most.ensures ∙ rw (loop.invariant, c.node_drop.ensures) (sym (max_next loop.node _))
 
 pub returns : goal.returns
 unfolding tick_drop
 returns c =
     let loop = c.loop-node in
     let e : loop.node ≡ length c.args.table.now / 16 = omega arith in
-    rw e at loop.invariant.1
+    rw e at loop.invariant

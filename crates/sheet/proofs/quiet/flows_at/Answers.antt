@@ -8,7 +8,7 @@ use Rattle.sheet.proofs.quiet.flows_at.Goals as goal
 
 pub loop-contact-init : goal.loop-contact-init
 unfolding any_below
-loop-contact-init c = (omega arith, refl)
+loop-contact-init c = refl
 
 pub returns-then-sheet-contact-ne0 : goal.returns-then-sheet-contact-ne0
 unfolding flows_at
@@ -19,11 +19,11 @@ returns-then-sheet-contact-ne0 c =
 pub loop-contact-preserved : goal.loop-contact-preserved
 loop-contact-preserved c =
     let loop = c.loop-contact in
-    (omega arith, any_next loop.contact _ ∙ rw (loop.invariant.1, eq-eqb _ 0 c.if-sheet-contact-ne0.false) refl)
+    any_next loop.contact _ ∙ rw (loop.invariant, eq-eqb _ 0 c.if-sheet-contact-ne0.false) refl
 
 pub returns : goal.returns
 unfolding flows_at
 returns c =
     let loop = c.loop-contact in
     let e : loop.contact ≡ 16 = omega arith in
-    sym (rw e at loop.invariant.1)
+    sym (rw e at loop.invariant)

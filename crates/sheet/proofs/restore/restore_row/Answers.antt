@@ -8,29 +8,28 @@ use Rattle.sheet.proofs.restore.restore_row.Goals as goal
 
 pub loop-t-init : goal.loop-t-init
 unfolding sum_below
-loop-t-init c = (omega arith, omega arith, rewritten_none _ _ _)
+loop-t-init c = (omega arith, rewritten_none _ _ _)
 
 pub bounds-sheet-start : goal.bounds-sheet-start
-bounds-sheet-start c = omega (arith, c.loop-t.invariant.2.long)
+bounds-sheet-start c = omega (arith, c.loop-t.invariant.1.long)
 
 pub bounds-sheet-start-in-loop-t : goal.bounds-sheet-start-in-loop-t
-bounds-sheet-start-in-loop-t c = omega (arith, c.loop-t.invariant.2.long)
+bounds-sheet-start-in-loop-t c = omega (arith, c.loop-t.invariant.1.long)
 
 pub loop-t-preserved : goal.loop-t-preserved
 loop-t-preserved c =
     let loop = c.loop-t in
-    let next = tick_restored (λ k. get_or c.args.sheet.now (c.args.start + k) 0) loop.t loop.invariant.1
-    (loop.invariant.2.rest (c.args.start + loop.t) (inr (omega arith))) refl in (
-      omega arith,
+    let next = tick_restored (λ k. get_or c.args.sheet.now (c.args.start + k) 0) loop.t loop.invariant.0
+    (loop.invariant.1.rest (c.args.start + loop.t) (inr (omega arith))) refl in (
       next.0,
-      rewritten_next _ c.args.start loop.t _ _ _ _ refl (omega (arith, c.requires.0)) next.1 loop.invariant.2,
+      rewritten_next _ c.args.start loop.t _ _ _ _ refl (omega (arith, c.requires.0)) next.1 loop.invariant.1,
     )
 
 pub shape_of-sheet : goal.shape_of-sheet
-shape_of-sheet c = c.loop-t.invariant.2.long
+shape_of-sheet c = c.loop-t.invariant.1.long
 
 pub returns : goal.returns
 returns c =
     let loop = c.loop-t in
     let e : loop.t ≡ c.args.stop = omega arith in
-    rw e at loop.invariant.2
+    rw e at loop.invariant.1
