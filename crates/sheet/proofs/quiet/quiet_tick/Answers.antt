@@ -9,9 +9,6 @@ use Rattle.sheet.proofs.quiet.quiet_tick.Goals as goal
 pub loop-t-init : goal.loop-t-init
 loop-t-init c = quiet_from c.requires
 
-pub flows_at-requires : goal.flows_at-requires
-flows_at-requires c = let quiet = c.requires in (quiet.long, omega (arith, quiet.ticks))
-
 pub returns-then-flows_at : goal.returns-then-flows_at
 returns-then-flows_at c =
     let loop = c.loop-t in
