@@ -23,12 +23,10 @@ pub fn is_decided(codes: &[u8], inputs: usize) -> bool
     requires { inputs ≤ length codes.now }
     ensures { result ≡ decided (sets_in inputs codes.now) }
 {
-    let mut net: usize = 0;
-    while net < inputs {
+    for net in 0..inputs {
         if is_undecided(codes[net]) {
             return false;
         }
-        net += 1;
     }
     true
 }
@@ -55,11 +53,9 @@ pub fn write_probe_codes(codes: &[u8], inputs: usize, singles: &mut [u8])
     requires { (inputs ≤ length codes.now) × (inputs ≤ length singles.old) }
     ensures { Rewritten (λ net. code (single (first_allowed (decode (get_or codes.now net 0))))) 0 inputs singles.old singles.new }
 {
-    let mut net: usize = 0;
-    while net < inputs {
+    for net in 0..inputs {
         let first = excitation::excitation_of(first_allowed(codes[net]));
         singles[net] = excitation::single(first).code;
-        net += 1;
     }
 }
 
@@ -68,10 +64,8 @@ pub fn write_probe(codes: &[u8], inputs: usize, pattern: &mut [u8])
     requires { (inputs ≤ length codes.now) × (inputs ≤ length pattern.old) }
     ensures { Rewritten (pattern_byte (probe (sets_in inputs codes.now))) 0 inputs pattern.old pattern.new }
 {
-    let mut net: usize = 0;
-    while net < inputs {
+    for net in 0..inputs {
         pattern[net] = first_allowed(codes[net]);
-        net += 1;
     }
 }
 

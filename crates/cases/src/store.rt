@@ -12,11 +12,7 @@ pub fn copy(from: &[u8], start: usize, to: &mut [u8], at: usize, n: usize)
     requires { (start + n ≤ length from.now) × (at + n ≤ length to.old) }
     ensures { Rewritten (λ j. get_or from.now (start + j) 0) at n to.old to.new }
 {
-    let mut j: usize = 0;
-    while j < n {
-        to[at + j] = from[start + j];
-        j += 1;
-    }
+    to[at..at + n].copy_from_slice(&from[start..start + n]);
 }
 
 // Copies the 64 bytes of a case's sets.
@@ -77,14 +73,12 @@ pub fn argmax(store: &[u8], n: usize) -> CaseNumber
 {
     let mut best: usize = 0;
     let mut most = upper(store, CaseNumber(0));
-    let mut k: usize = 1;
-    while k < n {
+    for k in 1..n {
         let here = upper(store, CaseNumber(k));
         if most < here {
             best = k;
             most = here;
         }
-        k += 1;
     }
     CaseNumber(best)
 }

@@ -14,13 +14,13 @@ bounds-order-k c = omega (arith, c.requires.2.long)
 pub bounds-codes-net : goal.bounds-codes-net
 bounds-codes-net c =
     let pre = c.requires in
-    omega (arith, c.usize_from_u8-net.ensures.0, pre.1, pre.2.low _ c.loop-k-test.true)
+    omega (arith, c.from-net.ensures, pre.1, pre.2.low _ c.loop-k-test.true)
 
 pub returns-then-undecided : goal.returns-then-undecided
 returns-then-undecided c =
     let pre = c.requires in
     let taken = c.loop-k-test.true in
-    let net = c.usize_from_u8-net.ensures.0 in (
+    let net = c.from-net.ensures in (
       scan_found pre.2 _ _ _ taken net c.is_undecided-undecided.ensures c.if-undecided.true ∙ c.loop-k.invariant.1,
       omega (arith, net, pre.2.low _ taken),
     )
@@ -29,7 +29,7 @@ pub loop-k-preserved : goal.loop-k-preserved
 loop-k-preserved c =
     let pre = c.requires in
     let taken = c.loop-k-test.true in
-    let net = c.usize_from_u8-net.ensures.0 in
+    let net = c.from-net.ensures in
     (omega arith, scan_next pre.2 _ _ _ taken net c.is_undecided-undecided.ensures c.if-undecided.false ∙ c.loop-k.invariant.1)
 
 pub returns : goal.returns

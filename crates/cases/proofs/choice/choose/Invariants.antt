@@ -9,6 +9,3 @@ use Rattle.cases.proofs.choice.choose.Given as goal
 
 abbrev pub invariant-loop-k : goal.invariant-loop-k
 invariant-loop-k l = (l.k ≤ l.inputs) × (first_undecided (drop l.k l.order) (sets_in l.inputs l.codes) ≡ first_undecided l.order (sets_in l.inputs l.codes))
-
-abbrev pub decreases-loop-k : goal.decreases-loop-k
-decreases-loop-k l = l.inputs - l.k

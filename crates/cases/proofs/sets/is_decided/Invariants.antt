@@ -9,6 +9,3 @@ use Rattle.cases.proofs.sets.is_decided.Given as goal
 
 abbrev pub invariant-loop-net : goal.invariant-loop-net
 invariant-loop-net l = (l.net ≤ l.inputs) × (all_below l.net (decided_at l.codes) ≡ true)
-
-abbrev pub decreases-loop-net : goal.decreases-loop-net
-decreases-loop-net l = l.inputs - l.net

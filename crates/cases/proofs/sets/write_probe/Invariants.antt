@@ -9,6 +9,3 @@ use Rattle.cases.proofs.sets.write_probe.Given as goal
 
 abbrev pub invariant-loop-net : goal.invariant-loop-net
 invariant-loop-net l = (l.net ≤ l.inputs) × Rewritten (pattern_byte (probe (sets_in l.inputs l.codes))) 0 l.net l.initial.pattern l.pattern
-
-abbrev pub decreases-loop-net : goal.decreases-loop-net
-decreases-loop-net l = l.inputs - l.net

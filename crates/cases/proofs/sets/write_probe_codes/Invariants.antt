@@ -9,6 +9,3 @@ use Rattle.cases.proofs.sets.write_probe_codes.Given as goal
 
 abbrev pub invariant-loop-net : goal.invariant-loop-net
 invariant-loop-net l = (l.net ≤ l.inputs) × Rewritten (λ net. code (single (first_allowed (decode (get_or l.codes net 0))))) 0 l.net l.initial.singles l.singles
-
-abbrev pub decreases-loop-net : goal.decreases-loop-net
-decreases-loop-net l = l.inputs - l.net

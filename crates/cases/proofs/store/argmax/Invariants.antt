@@ -7,6 +7,3 @@ use Rattle.cases.proofs.store.argmax.Given as goal
 
 abbrev pub invariant-loop-k : goal.invariant-loop-k
 invariant-loop-k l = (1 ≤ l.k) × (l.k ≤ l.n) × GreatestSoFar (upper_in l.store) l.k l.best l.most
-
-abbrev pub decreases-loop-k : goal.decreases-loop-k
-decreases-loop-k l = l.n - l.k
