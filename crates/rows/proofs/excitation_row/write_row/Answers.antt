@@ -3,18 +3,12 @@
 use Prim.Native.Nat.{◌+◌, ◌*◌}
 use mathlib.Core.Path.{ap}
 use native.Mathlib.Omega.{arith}
-use Rattle.rows.proofs.Excitations.{words_none, words_next, words_all}
+use Rattle.rows.proofs.Excitations.{words_next, words_all}
 use Rattle.rows.proofs.excitation_row.write_row.Goals as goal
-
-pub loop-part-init : goal.loop-part-init
-loop-part-init c = words_none _ _ _
 
 pub loop-part-preserved : goal.loop-part-preserved
 loop-part-preserved c =
     words_next _ _ c.loop-part.part c.loop-part.invariant c.write_word.ensures
-
-pub shape_of-work : goal.shape_of-work
-shape_of-work c = c.loop-part.invariant.long
 
 pub returns : goal.returns
 returns c =
