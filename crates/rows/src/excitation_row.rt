@@ -5,19 +5,16 @@ ghost use Rattle.rows.specs.Rows.{HasRow, place_of, RowRead, RowWritten};
 use excitation::Excitation;
 
 // Where the word of an excitation stands in a part.
+#[tactic(auto, unfolding(crate::specs::Rows::place_of))]
 fn place(e: Excitation) -> usize
     ensures { (result ≡ place_of e) × (result ≤ 24) }
 {
-    if e.before {
-        if e.after {
-            return 8;
-        }
-        return 16;
+    match (e.before, e.after) {
+        (false, false) => 0,
+        (true, true) => 8,
+        (true, false) => 16,
+        (false, true) => 24,
     }
-    if e.after {
-        return 24;
-    }
-    0
 }
 
 // The ticks at which a net's sets have an excitation.
