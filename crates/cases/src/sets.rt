@@ -7,7 +7,6 @@ ghost use Rattle.cases.specs.Store.{pattern_byte};
 ghost use Rattle.cases.specs.Records.{child_codes};
 ghost use Rattle.cases.specs.Case.{undecided, decided, first_allowed, probe};
 
-use super::store;
 use block::Net;
 use excitation::Set;
 
@@ -76,7 +75,7 @@ pub fn child_codes(parent: &[u8], input: Net, e: u8) -> [u8; 64]
 {
     let net = input.0;
     let mut codes = [0u8; 64];
-    store::copy(parent, 0, &mut codes, 0, 64);
+    codes.copy_from_slice(parent);
     codes[net] = excitation::single(excitation::excitation_of(e)).code;
     codes
 }

@@ -6,7 +6,7 @@ use Rattle.cases.proofs.Chosen.{scan_found, scan_next, scan_end}
 use Rattle.cases.proofs.choice.choose.Goals as goal
 
 pub loop-k-init : goal.loop-k-init
-loop-k-init c = (omega arith, refl)
+loop-k-init c = refl
 
 pub bounds-order-k : goal.bounds-order-k
 bounds-order-k c = omega (arith, c.requires.2.long)
@@ -21,7 +21,7 @@ returns-then-undecided c =
     let pre = c.requires in
     let taken = c.loop-k-test.true in
     let net = c.from-net.ensures in (
-      scan_found pre.2 _ _ _ taken net c.is_undecided-undecided.ensures c.if-undecided.true ∙ c.loop-k.invariant.1,
+      scan_found pre.2 _ _ _ taken net c.is_undecided-undecided.ensures c.if-undecided.true ∙ c.loop-k.invariant,
       omega (arith, net, pre.2.low _ taken),
     )
 
@@ -30,9 +30,9 @@ loop-k-preserved c =
     let pre = c.requires in
     let taken = c.loop-k-test.true in
     let net = c.from-net.ensures in
-    (omega arith, scan_next pre.2 _ _ _ taken net c.is_undecided-undecided.ensures c.if-undecided.false ∙ c.loop-k.invariant.1)
+    scan_next pre.2 _ _ _ taken net c.is_undecided-undecided.ensures c.if-undecided.false ∙ c.loop-k.invariant
 
 pub returns : goal.returns
 returns c =
     let pre = c.requires in
-    (scan_end pre.2 _ c.loop-k.k (omega arith) ∙ c.loop-k.invariant.1, omega (arith, pre.0))
+    (scan_end pre.2 _ c.loop-k.k (omega arith) ∙ c.loop-k.invariant, omega (arith, pre.0))

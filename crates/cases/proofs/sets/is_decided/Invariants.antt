@@ -1,6 +1,5 @@
 -- `cases::sets::is_decided` meets its contract.
 -- Assumes nothing.
-use Prim.Native.Nat.{◌-◌, ◌≤◌}
 use mathlib.Core.Bool.{true}
 use mathlib.Core.Path.{◌≡◌}
 use Rattle.laws.specs.Below.{all_below}
@@ -8,4 +7,4 @@ use Rattle.cases.proofs.Codes.{decided_at}
 use Rattle.cases.proofs.sets.is_decided.Given as goal
 
 abbrev pub invariant-loop-net : goal.invariant-loop-net
-invariant-loop-net l = (l.net ≤ l.inputs) × (all_below l.net (decided_at l.codes) ≡ true)
+invariant-loop-net l = (all_below l.net (decided_at l.codes) ≡ true)
