@@ -1,20 +1,9 @@
 -- `cases::choice::choose` meets its contract. The loop's invariant: the scan of the rest of the list is that of the whole.
 -- Assumes nothing.
-use mathlib.Core.Path.{refl, ◌∙◌}
+use mathlib.Core.Path.{◌∙◌}
 use native.Mathlib.Omega.{arith}
 use Rattle.cases.proofs.Chosen.{scan_found, scan_next, scan_end}
 use Rattle.cases.proofs.choice.choose.Goals as goal
-
-pub loop-k-init : goal.loop-k-init
-loop-k-init c = refl
-
-pub bounds-order-k : goal.bounds-order-k
-bounds-order-k c = omega (arith, c.requires.2.long)
-
-pub bounds-codes-net : goal.bounds-codes-net
-bounds-codes-net c =
-    let pre = c.requires in
-    omega (arith, c.from-net.ensures, pre.1, pre.2.low _ c.loop-k-test.true)
 
 pub returns-then-undecided : goal.returns-then-undecided
 returns-then-undecided c =

@@ -7,4 +7,4 @@ use Rattle.cases.specs.Choice.{first_undecided}
 use Rattle.cases.proofs.choice.choose.Given as goal
 
 abbrev pub invariant-loop-k : goal.invariant-loop-k
-invariant-loop-k l = (first_undecided (drop l.k l.order) (sets_in l.inputs l.codes) ≡ first_undecided l.order (sets_in l.inputs l.codes))
+invariant-loop-k l = first_undecided (drop l.k l.order) (sets_in l.inputs l.codes) ≡ first_undecided l.order (sets_in l.inputs l.codes)

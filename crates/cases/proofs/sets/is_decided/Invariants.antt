@@ -7,4 +7,4 @@ use Rattle.cases.proofs.Codes.{decided_at}
 use Rattle.cases.proofs.sets.is_decided.Given as goal
 
 abbrev pub invariant-loop-net : goal.invariant-loop-net
-invariant-loop-net l = (all_below l.net (decided_at l.codes) ≡ true)
+invariant-loop-net l = all_below l.net (decided_at l.codes) ≡ true

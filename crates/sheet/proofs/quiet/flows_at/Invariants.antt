@@ -6,4 +6,4 @@ use Rattle.sheet.specs.Sheet.{sheet_in}
 use Rattle.sheet.proofs.quiet.flows_at.Given as goal
 
 abbrev pub invariant-loop-contact : goal.invariant-loop-contact
-invariant-loop-contact l = (any_below l.contact (λ c. not (eqb (sheet_in l.sheet c l.t) 0)) ≡ false)
+invariant-loop-contact l = any_below l.contact (λ c. not (eqb (sheet_in l.sheet c l.t) 0)) ≡ false
