@@ -1,10 +1,8 @@
 // The drop of a sheet: the greatest over nodes and ticks of the sum of resistance × current. At each tick a bound of the drop of every
 // node is taken first, and only a tick whose bound is above the greatest drop found so far is worked out node by node.
 ghost use Rattle.std.specs.Prelude.{◌≡◌, ◌+◌, ◌*◌, ◌<◌, ◌≤◌, length, replicate};
-ghost use Rattle.laws.specs.Below.{argmax};
 ghost use Rattle.laws.specs.Rewritten.{Rewritten};
 ghost use Rattle.sheet.specs.Sheet.{drop_at, drop_of, sheet_in};
-ghost use Rattle.sheet.specs.Words.{word_of};
 ghost use Rattle.sheet.specs.Sums.{Droppable, most_resistance, bound_at, tick_drop, TickFits, with_contact, SumsFit};
 
 use super::Word;
@@ -41,23 +39,6 @@ fn bound_ticks(table: &[u16], sheet: &[Word], stop: usize, bounds: &mut [u64])
         let resistance = most_resistance(table, contact);
         add_contact(bounds, resistance, sheet, 512 * contact, stop);
     }
-}
-
-// The first of the first n places at which the word is greatest.
-fn argmax(words: &[u64], n: usize) -> usize
-    requires { (1 ≤ n) × (n ≤ length words.now) }
-    ensures { (result ≡ argmax n (word_of words.now)) × (result < n) }
-{
-    let mut best: usize = 0;
-    let mut most = words[0];
-    for i in 1..n {
-        let here = words[i];
-        if most < here {
-            best = i;
-            most = here;
-        }
-    }
-    best
 }
 
 // A node's drop at tick t.
@@ -97,7 +78,8 @@ pub fn greatest_drop(table: &[u16], sheet: &[Word], stop: usize) -> u64
     }
     let mut bounds = [0u64; 512];
     bound_ticks(table, sheet, stop, &mut bounds);
-    let mut most = tick_drop(table, sheet, argmax(&bounds, stop));
+    let first = numbers::first_greatest(stop, |t| bounds[t]);
+    let mut most = tick_drop(table, sheet, first);
     for t in 0..stop {
         if most < bounds[t] {
             most = most.max(tick_drop(table, sheet, t));

@@ -28,4 +28,4 @@ loop-t-preserved c =
 pub returns : goal.returns
 returns c =
     let loop = c.loop-t in
-    ticks_all c.args.table.now c.args.sheet.now _ loop.t loop.invariant c.requires (omega arith) c.argmax.ensures.1 c.tick_drop-most.ensures
+    ticks_all c.args.table.now c.args.sheet.now _ loop.t loop.invariant c.requires (omega arith) c.first_greatest-first.ensures.inside c.tick_drop-most.ensures
