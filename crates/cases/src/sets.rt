@@ -22,12 +22,7 @@ pub fn is_decided(codes: &[u8], inputs: usize) -> bool
     requires { inputs ≤ length codes.now }
     ensures { result ≡ decided (sets_in inputs codes.now) }
 {
-    for net in 0..inputs {
-        if is_undecided(codes[net]) {
-            return false;
-        }
-    }
-    true
+    codes[..inputs].iter().all(|code| !is_undecided(*code))
 }
 
 // The byte of a set's first allowed of lh, hl, h, l.
