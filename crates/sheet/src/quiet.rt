@@ -10,12 +10,7 @@ fn flows_at(sheet: &[Word], t: usize) -> bool
     requires { (length sheet.now ≡ 8192) × (t < 512) }
     ensures { result ≡ flows_at (sheet_in sheet.now) t }
 {
-    for contact in 0..16 {
-        if sheet[512 * contact + t] != 0 {
-            return true;
-        }
-    }
-    false
+    (0..16).any(|contact| sheet[512 * contact + t] != 0)
 }
 
 // The last tick at which some row of a sheet is not 0, and 0 for an empty sheet, where the sheet has no current from tick `stop` on.
