@@ -50,9 +50,9 @@ word_same bytes others at from same =
       same 6 (omega arith),
       same 7 (omega arith),
     )
-    where
-      first : get_or bytes at 0 ≡ get_or others from 0
-      first = rw (← add-zero at, ← add-zero from) (same 0 (omega arith))
+  where
+    first : get_or bytes at 0 ≡ get_or others from 0
+    first = rw (← add-zero at, ← add-zero from) (same 0 (omega arith))
 
 -- The eight bytes of a number hold it.
 pub word_held : (bytes : List ℕ) (at number : ℕ) → number < 2 ^ 64 → ((j : ℕ) → j < 8 → get_or bytes (at + j) 0 ≡ number / 256 ^ j % 256)
@@ -70,6 +70,6 @@ word_held bytes at number low same =
       same 6 (omega arith),
       same 7 (omega arith),
     )
-    where
-      first : get_or bytes at 0 ≡ number % 256
-      first = ap (λ i. get_or bytes i 0) (sym (add-zero at)) ∙ same 0 (omega arith) ∙ ap (λ n. n % 256) (div-one number)
+  where
+    first : get_or bytes at 0 ≡ number % 256
+    first = ap (λ i. get_or bytes i 0) (sym (add-zero at)) ∙ same 0 (omega arith) ∙ ap (λ n. n % 256) (div-one number)

@@ -9,4 +9,3 @@ pub loop-net-preserved : goal.loop-net-preserved
 loop-net-preserved c =
     let loop = c.loop-net in
     rewritten_next _ _ loop.net _ _ _ _ (omega arith) (omega arith) (probe_byte _ _ _ c.loop-net-test.true c.first_allowed.ensures) loop.invariant
-

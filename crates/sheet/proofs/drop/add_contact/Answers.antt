@@ -15,5 +15,4 @@ pub loop-t-preserved : goal.loop-t-preserved
 loop-t-preserved c =
     let loop = c.loop-t in
     rewritten_next _ 0 loop.t _ _ _ _ (omega arith) (omega (arith, c.requires.long, c.requires.in_row))
-        (to_contact c.args.resistance c.args.sheet.now c.args.start loop.invariant refl) loop.invariant
-
+    (to_contact c.args.resistance c.args.sheet.now c.args.start loop.invariant refl) loop.invariant

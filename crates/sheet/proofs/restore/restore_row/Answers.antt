@@ -18,4 +18,3 @@ loop-t-preserved c =
       next.0,
       rewritten_next _ c.args.start loop.t _ _ _ _ refl (omega (arith, c.requires.0)) next.1 loop.invariant.1,
     )
-

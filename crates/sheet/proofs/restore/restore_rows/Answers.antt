@@ -8,4 +8,3 @@ pub loop-contact-preserved : goal.loop-contact-preserved
 loop-contact-preserved c =
     let loop = c.loop-contact in
     rows_next (omega arith) c.requires.1 loop.invariant c.restore_row.ensures
-
