@@ -8,6 +8,7 @@ ghost use Rattle.sheet.specs.Sums.{Droppable, most_resistance, bound_at, tick_dr
 use super::Word;
 
 // The greatest resistance of a contact over the nodes.
+#[tactic(auto, unfolding(laws::specs::Below::max_below, crate::specs::Sums::most_resistance))]
 fn most_resistance(table: &[u16], contact: usize) -> u64
     requires { contact < 16 }
     ensures { result ≡ most_resistance table.now contact }
@@ -26,7 +27,7 @@ fn add_contact(sums: &mut [u64], resistance: u64, sheet: &[Word], start: usize, 
     ensures { Rewritten (with_contact sums.old resistance sheet.now start) 0 stop sums.old sums.new }
 {
     for t in 0..stop {
-        sums[t] = sums[t] + resistance * sheet[start + t];
+        sums[t] += resistance * sheet[start + t];
     }
 }
 
@@ -42,6 +43,7 @@ fn bound_ticks(table: &[u16], sheet: &[Word], stop: usize, bounds: &mut [u64])
 }
 
 // A node's drop at tick t.
+#[tactic(auto, unfolding(laws::specs::Below::sum_below, crate::specs::Sheet::drop_at))]
 fn node_drop(table: &[u16], node: usize, sheet: &[Word], t: usize) -> u64
     requires { (16 * node + 16 ≤ length table.now) × TickFits sheet.now t }
     ensures { result ≡ drop_at table.now (sheet_in sheet.now) node t }
@@ -55,6 +57,7 @@ fn node_drop(table: &[u16], node: usize, sheet: &[Word], t: usize) -> u64
 }
 
 // The greatest drop of a node at tick t.
+#[tactic(auto, unfolding(laws::specs::Below::max_below, crate::specs::Sums::tick_drop))]
 fn tick_drop(table: &[u16], sheet: &[Word], t: usize) -> u64
     requires { TickFits sheet.now t }
     ensures { result ≡ tick_drop table.now (sheet_in sheet.now) t }
@@ -69,6 +72,7 @@ fn tick_drop(table: &[u16], sheet: &[Word], t: usize) -> u64
 
 // The drop of a sheet that has no current from tick `stop` on. The tick of the greatest bound goes first, so that few others have a bound
 // above the drop found there.
+#[tactic(auto, unfolding(laws::specs::Below::max_below), using(crate::proofs::Drops::drop_none))]
 pub fn greatest_drop(table: &[u16], sheet: &[Word], stop: usize) -> u64
     requires { Droppable stop sheet.now }
     ensures { result ≡ drop_of table.now (sheet_in sheet.now) }

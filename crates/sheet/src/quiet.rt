@@ -14,6 +14,7 @@ fn flows_at(sheet: &[Word], t: usize) -> bool
 }
 
 // The last tick at which some row of a sheet is not 0, and 0 for an empty sheet, where the sheet has no current from tick `stop` on.
+#[tactic(auto, unfolding(laws::specs::Below::last_below))]
 pub fn quiet_tick(sheet: &[Word], stop: usize) -> usize
     requires { QuietFrom stop sheet.now }
     ensures { result ≡ quiet_tick (sheet_in sheet.now) }

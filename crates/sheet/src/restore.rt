@@ -7,6 +7,7 @@ ghost use Rattle.sheet.specs.Changes.{restored, Restored};
 use super::Word;
 
 // The row that starts at word `start`, at each tick before `stop`.
+#[tactic(auto, unfolding(laws::specs::Below::sum_below))]
 fn restore_row(sheet: &mut [Word], start: usize, stop: usize)
     requires { (length sheet.old ≡ 8192) × (start + 512 ≤ 8192) × (stop ≤ 512) }
     ensures { Rewritten (restored (λ k. slice_index sheet.old (start + k))) start stop sheet.old sheet.new }

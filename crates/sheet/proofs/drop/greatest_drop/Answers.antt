@@ -1,18 +1,10 @@
 -- `sheet::drop::greatest_drop` meets its contract.
 -- Assumes nothing.
 use Rattle.std.proofs.Common.{◌∙◌, arith}
-use Rattle.laws.specs.Below.{max_below}
 use Rattle.laws.proofs.Rewritten.{rewritten_first}
-use Rattle.sheet.proofs.Drops.{drop_none, tick_taken, tick_passed, ticks_all}
+use Rattle.sheet.proofs.Drops.{tick_taken, tick_passed, ticks_all}
 use Rattle.sheet.proofs.drop.greatest_drop.Goals as goal
 use Rattle.sheet.proofs.drop.greatest_drop.Goals.{then-most-bounds, else-most-bounds}
-
-pub returns-then-stop-eq0 : goal.returns-then-stop-eq0
-returns-then-stop-eq0 c = drop_none c.args.table.now c.requires (omega arith)
-
-pub loop-t-init : goal.loop-t-init
-unfolding max_below
-loop-t-init c = omega arith
 
 pub loop-t-preserved : goal.loop-t-preserved
 loop-t-preserved c =

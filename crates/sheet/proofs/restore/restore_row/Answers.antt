@@ -1,14 +1,9 @@
 -- `sheet::restore::restore_row` meets its contract.
 -- Assumes nothing.
 use Rattle.std.proofs.Common.{◌+◌, get_or, refl, inr, arith}
-use Rattle.laws.specs.Below.{sum_below}
-use Rattle.laws.proofs.Rewritten.{rewritten_none, rewritten_next}
+use Rattle.laws.proofs.Rewritten.{rewritten_next}
 use Rattle.sheet.proofs.Changes.{tick_restored}
 use Rattle.sheet.proofs.restore.restore_row.Goals as goal
-
-pub loop-t-init : goal.loop-t-init
-unfolding sum_below
-loop-t-init c = (omega arith, rewritten_none _ _ _)
 
 pub loop-t-preserved : goal.loop-t-preserved
 loop-t-preserved c =
