@@ -11,6 +11,7 @@ use block::Net;
 use excitation::Set;
 
 // Whether a set has more than one member.
+#[tactic(auto, using(crate::proofs::Codes::undecided_code))]
 pub fn is_undecided(code: u8) -> bool
     ensures { result ≡ undecided (decode code) }
 {
@@ -26,6 +27,7 @@ pub fn is_decided(codes: &[u8], inputs: usize) -> bool
 }
 
 // The byte of a set's first allowed of lh, hl, h, l.
+#[tactic(auto, unfolding(crate::specs::Case::first_allowed, excitation::specs::Excitation::byte_of))]
 pub fn first_allowed(code: u8) -> u8
     ensures { result ≡ byte_of (first_allowed (decode code)) }
 {
