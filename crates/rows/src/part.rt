@@ -30,6 +30,7 @@ fn write_from(bytes: &mut [u8], at: usize, sets: Part)
 }
 
 // The 64 sets of a net from tick 64 × part on.
+#[tactic(auto, using(crate::proofs::Rows::part_is))]
 pub fn read_part(work: &[u8], net: usize, part: usize) -> Part
     requires { HasRow work.now net × (part < 4) }
     ensures { (k : ℕ) → k < 64 → set_at result k ≡ set_in work.now net (64 * part + k) }
