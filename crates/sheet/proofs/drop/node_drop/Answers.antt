@@ -18,4 +18,3 @@ sum_small c =
 
 pub overflow_add-sum-in-loop-contact : goal.overflow_add-sum-in-loop-contact
 overflow_add-sum-in-loop-contact c = omega (arith, sum_small c)
-

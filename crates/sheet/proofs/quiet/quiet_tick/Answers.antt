@@ -5,4 +5,3 @@ use Rattle.sheet.proofs.quiet.quiet_tick.Goals as goal
 
 pub loop-t-init : goal.loop-t-init
 loop-t-init c = quiet_from c.requires
-
