@@ -27,6 +27,7 @@ pub fn is_decided(codes: &[u8], inputs: usize) -> bool
 }
 
 // The byte of a set's first allowed of lh, hl, h, l.
+// Form kept: what may not change: the search calls it for a byte, as a pattern has it.
 #[tactic(auto, unfolding(crate::specs::Case::first_allowed, excitation::specs::Excitation::byte_of))]
 pub fn first_allowed(code: u8) -> u8
     ensures { result ≡ byte_of (first_allowed (decode code)) }
@@ -66,6 +67,7 @@ pub fn write_probe(codes: &[u8], inputs: usize, pattern: &mut [u8])
 }
 
 // The codes of a child's sets: those of its parent, but for the input that is split, whose set has the excitation of byte e alone.
+// Form kept: what may not change: the search calls it with a byte, and goes through the four bytes.
 pub fn child_codes(parent: &[u8], input: Net, e: u8) -> [u8; 64]
     requires { (length parent.now ≡ 64) × (input.0 < 64) }
     ensures { result ≡ child_codes parent.now input.0 e }

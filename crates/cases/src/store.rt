@@ -6,6 +6,9 @@ ghost use Rattle.cases.specs.Records.{upper_in, HasCase, record_byte};
 
 use super::CaseNumber;
 
+// Form kept: what may not change: the search calls these functions with the lent store and a case's number, and `HasCase` in their contracts
+// says what the two have to do with each other.
+
 // Copies the 64 bytes of a case's sets.
 pub fn read_sets(store: &[u8], case: CaseNumber, codes: &mut [u8])
     requires { HasCase store.now case.0 × (length codes.old ≡ 64) }

@@ -4,6 +4,9 @@ ghost use Rattle.rows.specs.Rows.{HasRow, place_of, RowRead, RowWritten};
 
 use excitation::Excitation;
 
+// Form kept: what may not change: the crates above call `read_row` and `write_row` with the lent work buffer and a net, and `HasRow` in
+// their contracts says what the two have to do with each other.
+
 // Where the word of an excitation stands in a part.
 #[tactic(auto, unfolding(crate::specs::Rows::place_of))]
 fn place(e: Excitation) -> usize

@@ -5,6 +5,9 @@ ghost use Rattle.rows.specs.Rows.{HasRow, set_from, set_in, PartWritten};
 
 use parts::Part;
 
+// Form kept: what may not change: the crates above call `read_part` and `write_part` with the lent work buffer and a net, and `HasRow` in
+// their contracts says what the two have to do with each other.
+
 // The 64 sets of the 32 bytes from a place on.
 fn read_from(bytes: &[u8], at: usize) -> Part
     requires { at + 32 ≤ length bytes.now }

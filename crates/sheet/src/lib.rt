@@ -8,6 +8,9 @@ mod drop;
 mod quiet;
 mod restore;
 
+// Form kept: what may not change: the crates above lend a sheet as a slice, whose length the contracts of `clear`, `restore_rows`,
+// `greatest_drop` and `quiet_tick` give.
+
 // A word of a sheet, in microamperes (request 5).
 pub type Word = u64;
 
