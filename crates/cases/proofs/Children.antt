@@ -4,15 +4,12 @@ use Prim.Native.Nat.{ℕ, zero, suc, ◌+◌, ◌≤◌, ◌<◌}
 use mathlib.Core.Bool.{true, false, cond}
 use mathlib.Core.List.{List, [], ◌∷◌, ◌++◌, map, append-nil, map-append}
 use mathlib.Core.Path.{◌≡◌, refl, ap, sym, ◌∙◌}
-use native.Mathlib.Nat.{zero-add}
 use native.Mathlib.Numerals.{add-one}
 use native.Mathlib.Omega.{arith}
 use lib.ListN.{length, get_or, set, length-set, length-append, length-map}
-use lib.Seq.{ext_get_or, get_or-set_same, get_or-set_other}
+use lib.Seq.{get_or-set_same, get_or-set_other}
 use borrow.Table.Steps.{cases}
-use Rattle.laws.specs.Rewritten.{Rewritten}
 use Rattle.laws.proofs.Numbers.{of_each}
-use Rattle.laws.proofs.Rewritten.{rewritten_first}
 use Rattle.laws.proofs.Turn.{list_is}
 use Rattle.excitation.specs.Excitation.{excitation_of, byte_of}
 use Rattle.excitation.specs.UncertaintySet.{UncertaintySet, member, empty, code, decode, single, sets_in}
@@ -27,16 +24,6 @@ use Rattle.cases.proofs.Probes.{probe_kept}
 single_low : (x : Excitation) → 1 ≤ code (single x)
 unfolding code
 single_low = for_each (λ x. 1 ≤ code (single x)) (omega arith) (omega arith) (omega arith) (omega arith)
-
--- The bytes of a child's sets, as the code makes them: the parent's copied, and the one of the input that is split written over.
-pub child_codes_lem : (parent : List ℕ) (input e : ℕ) {given codes : List ℕ} {x : Excitation} {number : ℕ} → length parent ≡ 64 → length given ≡ 64
-    → Rewritten (λ j. get_or parent (0 + j) 0) 0 64 given codes → x ≡ excitation_of e → number ≡ code (single x)
-    → set codes input number ≡ child_codes parent input e
-child_codes_lem parent input e {given} {codes} {x} {number} long same copied is coded =
-    let copy : codes ≡ parent =
-    ext_get_or 0 codes parent (copied.long ∙ same ∙ sym long)
-    (λ j h. rewritten_first _ 64 given codes copied j (omega (arith, copied.long)) ∙ ap (λ i. get_or parent i 0) (zero-add j)) in
-    ap (λ bytes. set bytes input number) copy ∙ ap (set parent input) (coded ∙ ap (λ x. code (single x)) is)
 
 -- The bytes of a child's sets, and its sets.
 

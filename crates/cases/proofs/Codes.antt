@@ -1,15 +1,16 @@
 -- Laws of the sets of a case by their codes: which are undecided, and the probe.
 -- Assumes nothing.
-use Prim.Native.Nat.{ℕ, ◌+◌, ◌/◌, ◌%◌, ◌≤◌, ◌<◌}
-use mathlib.Core.Bool.{Bool, true, false, not}
-use mathlib.Core.List.{List}
+use Prim.Native.Nat.{ℕ, zero, suc, ◌+◌, ◌/◌, ◌%◌, ◌≤◌, ◌<◌}
+use mathlib.Core.Bool.{Bool, not, ◌&&◌}
+use mathlib.Core.List.{List, [], ◌∷◌}
 use mathlib.Core.Path.{◌≡◌, refl, ap, sym, ◌∙◌}
 use native.Mathlib.Omega.{arith}
 use lib.Dec.{ltb}
-use lib.ListN.{length, get_or, length-map}
+use lib.ListN.{length, get_or, take, length-map}
+use Rattle.std.specs.List.{list_all}
 use Rattle.laws.specs.Below.{all_below}
 use Rattle.laws.specs.Rewritten.{Rewritten}
-use Rattle.laws.proofs.Below.{all_same, all_fails, indicator_of}
+use Rattle.laws.proofs.Below.{all_first, all_same, indicator_of}
 use Rattle.laws.proofs.Rewritten.{rewritten_first}
 use Rattle.laws.proofs.Turn.{list_at, list_map}
 use Rattle.excitation.specs.Excitation.{l, byte_of, pattern_of}
@@ -39,17 +40,21 @@ undecided_code n = ap (ltb 1) (size_code n)
 abbrev pub decided_at : List ℕ → ℕ → Bool
 decided_at codes net = not (undecided (decode (get_or codes net 0)))
 
+all_listed : (test : ℕ → Bool) (n : ℕ) (xs : List ℕ) → n ≤ length xs → list_all test (take n xs) ≡ all_below n (λ k. test (get_or xs k 0))
+unfolding all_below
+all_listed test zero xs h = refl
+all_listed test (suc n) [] h = absurd (omega arith)
+all_listed test (suc n) (x ∷ xs) h = ap (λ b. test x && b) (all_listed test n xs (omega arith)) ∙ sym (all_first n (λ k. test (get_or (x ∷ xs) k 0)))
+
 pub decided_codes : (inputs : ℕ) (codes : List ℕ) → decided (sets_in inputs codes) ≡ all_below inputs (decided_at codes)
 unfolding decided
 decided_codes inputs codes =
     ap (λ n. all_below n (λ net. not (undecided (get_or (sets_in inputs codes) net empty)))) (sets_long inputs codes)
     ∙ all_same inputs _ _ (λ net h. ap (λ s. not (undecided s)) (set_at inputs codes net empty h))
 
--- One undecided input is enough.
-pub decided_fails : (inputs : ℕ) (codes : List ℕ) (net : ℕ) {r : Bool} → net < inputs → r ≡ undecided (decode (get_or codes net 0)) → r ≡ true
-    → false ≡ decided (sets_in inputs codes)
-decided_fails inputs codes net h e t =
-    sym (decided_codes inputs codes ∙ all_fails inputs (decided_at codes) net h (ap not (sym e ∙ t)))
+pub decided_listed : (inputs : ℕ) (codes : List ℕ) → inputs ≤ length codes
+    → list_all (λ code. not (undecided (decode code))) (take inputs codes) ≡ decided (sets_in inputs codes)
+decided_listed inputs codes h = all_listed _ inputs codes h ∙ sym (decided_codes inputs codes)
 
 -- The probe of a case, input by input, and its bytes.
 

@@ -1,10 +1,9 @@
 -- Laws of the record of a case: how the code writes it, sets first and then the upper number; once it is written the store has that case
 -- there, and the others as they were.
 -- Assumes nothing.
-use Prim.Native.Nat.{ℕ, ◌+◌, ◌*◌, ◌≤◌, ◌<◌}
+use Prim.Native.Nat.{ℕ, ◌+◌, ◌*◌, ◌/◌, ◌%◌, ◌^◌, ◌≤◌, ◌<◌}
 use mathlib.Core.List.{List, [], ◌∷◌, ◌++◌}
 use mathlib.Core.Path.{◌≡◌, refl, ap, sym, subst, ◌∙◌}
-use native.Mathlib.Nat.{zero-add}
 use native.Mathlib.Omega.{arith}
 use lib.ListN.{length, get_or, drop, set, length-set, get_or-append}
 use lib.Seq.{get_or-drop, get_or-append-add, get_or-set_same, get_or-set_other}
@@ -13,8 +12,9 @@ use Rattle.laws.specs.Rewritten.{Rewritten}
 use Rattle.laws.specs.Turn.{list_below}
 use Rattle.laws.proofs.Below.{max_same, argmax_is, argmax_same}
 use Rattle.laws.proofs.Numbers.{of_each, outside_record}
-use Rattle.laws.proofs.Rewritten.{rewritten_first, rewritten_same, rewritten_append}
+use Rattle.laws.proofs.Rewritten.{rewritten_first, rewritten_append}
 use Rattle.laws.proofs.Turn.{list_at, list_long, list_next, list_is, list_same}
+use Rattle.numbers.proofs.WordBytes.{word_same, word_held}
 use Rattle.excitation.specs.UncertaintySet.{sets_in}
 use Rattle.excitation.proofs.Codes.{sets_same}
 use Rattle.block.specs.Limits.{drop_limit}
@@ -22,7 +22,7 @@ use Rattle.cases.specs.Case.{Case}
 use Rattle.cases.specs.Search.{StoredCase, no_case, upper_at, sets_at, greatest_upper, next_split}
 use Rattle.cases.specs.Store.{number_bytes}
 use Rattle.cases.specs.Records.{upper_in, case_in, cases_in, record_byte, HasCase, SetCodes, HasCases}
-use Rattle.cases.proofs.Numbers.{number_same, number_at_lem}
+use Rattle.cases.proofs.Numbers.{number_byte}
 
 -- The bytes of a case's sets alone say that they are such bytes.
 codes_same : (inputs : ℕ) (codes others : List ℕ) → inputs ≤ 64 → ((j : ℕ) → j < 64 → get_or codes j 0 ≡ get_or others j 0)
@@ -54,19 +54,14 @@ module _ (codes : List ℕ) (upper : ℕ) (long : length codes ≡ 64) where
 
 -- A record as the code writes it: its sets, then its upper number.
 
--- A copy of a part that starts at another name of its place.
-pub copied_at : (from : List ℕ) (start place at n : ℕ) (given after : List ℕ) → start ≡ place
-    → Rewritten (λ j. get_or from (start + j) 0) at n given after → Rewritten (λ j. get_or from (place + j) 0) at n given after
-copied_at from start place at n given after e w = rewritten_same _ _ at n given after (λ j h. ap (λ s. get_or from (s + j) 0) e) w
-
 pub case_written : (codes : List ℕ) (upper start place : ℕ) (store sets after : List ℕ) → length codes ≡ 64 → start ≡ place
-    → Rewritten (λ j. get_or codes (0 + j) 0) start 64 store sets → Rewritten (λ j. get_or (number_bytes 8 upper) j 0) (start + 64) 8 sets after
+    → Rewritten (λ j. get_or codes j 0) start 64 store sets → Rewritten (λ j. upper / 256 ^ j % 256) (start + 64) 8 sets after
     → Rewritten (record_byte codes upper) place 72 store after
 case_written codes upper start place store sets after long e first second =
     subst (λ s. Rewritten (record_byte codes upper) s 72 store after) e
     (rewritten_append _ _ (record_byte codes upper) start 64 (start + 64) 8 store sets after refl
-    (λ j h. ap (λ i. get_or codes i 0) (zero-add j) ∙ sym (record_set codes upper long j h))
-    (λ j h. sym (record_number codes upper long j))
+    (λ j h. sym (record_set codes upper long j h))
+    (λ j h. sym (record_number codes upper long j ∙ number_byte 8 upper j h))
     first second)
 
 -- A record is written: its bytes, its case and every other, the cases that the store has then, and that it has cases then.
@@ -76,8 +71,8 @@ module _ (inputs : ℕ) (few : inputs ≤ 64) (codes : List ℕ) (long : length 
   set_byte : (j : ℕ) → j < 64 → get_or after (72 * at + j) 0 ≡ get_or codes j 0
   set_byte j h = written.done j (omega arith) ∙ record_set codes upper long j h
 
-  number_byte : (j : ℕ) → j < 8 → get_or after (72 * at + 64 + j) 0 ≡ get_or (number_bytes 8 upper) j 0
-  number_byte j h =
+  upper_byte : (j : ℕ) → j < 8 → get_or after (72 * at + 64 + j) 0 ≡ get_or (number_bytes 8 upper) j 0
+  upper_byte j h =
       let e : 72 * at + 64 + j ≡ 72 * at + (64 + j) = omega arith in
       ap (λ i. get_or after i 0) e ∙ written.done (64 + j) (omega arith) ∙ record_number codes upper long j
 
@@ -87,7 +82,7 @@ module _ (inputs : ℕ) (few : inputs ≤ 64) (codes : List ℕ) (long : length 
   -- The case that is written, and another.
 
   upper_here : upper < drop_limit → upper_in after at ≡ upper
-  upper_here low = number_at_lem after (72 * at + 64) upper (omega arith) number_byte
+  upper_here low = word_held after (72 * at + 64) upper (omega arith) (λ j h. upper_byte j h ∙ number_byte 8 upper j h)
 
   upper_byte_other : (k : ℕ) → (k ≡ at → ⊥) → (j : ℕ) → j < 8 → get_or after (72 * k + 64 + j) 0 ≡ get_or store (72 * k + 64 + j) 0
   upper_byte_other k n j h =
@@ -95,7 +90,7 @@ module _ (inputs : ℕ) (few : inputs ≤ 64) (codes : List ℕ) (long : length 
       rw e (other_byte k (64 + j) n (omega arith))
 
   upper_other : (k : ℕ) → (k ≡ at → ⊥) → upper_in after k ≡ upper_in store k
-  upper_other k n = number_same after store (72 * k + 64) (72 * k + 64) (upper_byte_other k n)
+  upper_other k n = word_same after store (72 * k + 64) (72 * k + 64) (upper_byte_other k n)
 
   code_here : (j : ℕ) → j < 64 → get_or codes j 0 ≡ get_or (drop (72 * at) after) j 0
   code_here j h = sym (get_or-drop (72 * at) after j 0 ∙ set_byte j h)
@@ -145,7 +140,7 @@ module _ (inputs : ℕ) (few : inputs ≤ 64) (codes : List ℕ) (long : length 
         (λ h. rw (upper_here low) low)
         (λ k d h. rw (upper_other k d) (has.upper_low k (others k h d)));
     upper_bytes = of_each (λ k. k < m → (j : ℕ) → j < 8 → get_or after (72 * k + 64 + j) 0 ≡ get_or (number_bytes 8 (upper_in after k)) j 0) at
-        (λ h j l. number_byte j l ∙ ap (λ u. get_or (number_bytes 8 u) j 0) (sym (upper_here low)))
+        (λ h j l. upper_byte j l ∙ ap (λ u. get_or (number_bytes 8 u) j 0) (sym (upper_here low)))
         (λ k d h j l. upper_byte_other k d j l ∙ has.upper_bytes k (others k h d) j l ∙ ap (λ u. get_or (number_bytes 8 u) j 0) (sym (upper_other k d)));
   }
 

@@ -1,21 +1,16 @@
 -- What the code reads from and writes to the case store (for document 01, "Search").
 use Rattle.std.specs.Prelude.{ℕ, ◌+◌, ◌*◌, ◌≤◌, ◌<◌, List, ◌++◌, ◌≡◌, length, get_or, drop, set}
 use Rattle.laws.specs.Turn.{list_below}
+use Rattle.numbers.specs.Words.{word_from}
 use Rattle.excitation.specs.Excitation.{excitation_of}
 use Rattle.excitation.specs.UncertaintySet.{code, single, sets_in}
 use Rattle.block.specs.Limits.{drop_limit}
 use Rattle.cases.specs.Search.{StoredCase}
 use Rattle.cases.specs.Store.{number_bytes}
 
--- The number that the 8 bytes from a place on hold, low first.
-unfoldable pub number_at : List ℕ → ℕ → ℕ
-number_at bytes at =
-    get_or bytes at 0 + 256 * (get_or bytes (at + 1) 0 + 256 * (get_or bytes (at + 2) 0 + 256 * (get_or bytes (at + 3) 0
-    + 256 * (get_or bytes (at + 4) 0 + 256 * (get_or bytes (at + 5) 0 + 256 * (get_or bytes (at + 6) 0 + 256 * get_or bytes (at + 7) 0))))))
-
 -- The upper number of case k, and the case with its upper number, as the store's bytes have them.
 abbrev pub upper_in : List ℕ → ℕ → ℕ
-upper_in store k = number_at store (72 * k + 64)
+upper_in store k = word_from 3 store (72 * k + 64)
 
 abbrev pub case_in : ℕ → List ℕ → ℕ → StoredCase
 case_in inputs store k = record { sets = sets_in inputs (drop (72 * k) store); upper = upper_in store k }

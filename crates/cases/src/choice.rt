@@ -12,14 +12,12 @@ pub fn choose(codes: &[u8], inputs: usize, order: &[u8]) -> Net
     requires { (1 ≤ inputs) × (inputs ≤ length codes.now) × NetsListed inputs order.now }
     ensures { (result.0 ≡ first_undecided order.now (sets_in inputs codes.now)) × (result.0 < inputs) }
 {
-    let mut k: usize = 0;
-    while k < inputs {
-        let net = numbers::usize_from_u8(order[k]);
+    for k in 0..inputs {
+        let net = usize::from(order[k]);
         let undecided = sets::is_undecided(codes[net]);
         if undecided {
             return Net(net);
         }
-        k += 1;
     }
     Net(0)
 }

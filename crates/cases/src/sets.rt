@@ -7,11 +7,11 @@ ghost use Rattle.cases.specs.Store.{pattern_byte};
 ghost use Rattle.cases.specs.Records.{child_codes};
 ghost use Rattle.cases.specs.Case.{undecided, decided, first_allowed, probe};
 
-use super::store;
 use block::Net;
 use excitation::Set;
 
 // Whether a set has more than one member.
+#[tactic(auto, using(crate::proofs::Codes::undecided_code))]
 pub fn is_undecided(code: u8) -> bool
     ensures { result ≡ undecided (decode code) }
 {
@@ -23,17 +23,12 @@ pub fn is_decided(codes: &[u8], inputs: usize) -> bool
     requires { inputs ≤ length codes.now }
     ensures { result ≡ decided (sets_in inputs codes.now) }
 {
-    let mut net: usize = 0;
-    while net < inputs {
-        if is_undecided(codes[net]) {
-            return false;
-        }
-        net += 1;
-    }
-    true
+    codes[..inputs].iter().all(|code| !is_undecided(*code))
 }
 
 // The byte of a set's first allowed of lh, hl, h, l.
+// Form kept: what may not change: the search calls it for a byte, as a pattern has it.
+#[tactic(auto, unfolding(crate::specs::Case::first_allowed, excitation::specs::Excitation::byte_of))]
 pub fn first_allowed(code: u8) -> u8
     ensures { result ≡ byte_of (first_allowed (decode code)) }
 {
@@ -55,11 +50,9 @@ pub fn write_probe_codes(codes: &[u8], inputs: usize, singles: &mut [u8])
     requires { (inputs ≤ length codes.now) × (inputs ≤ length singles.old) }
     ensures { Rewritten (λ net. code (single (first_allowed (decode (get_or codes.now net 0))))) 0 inputs singles.old singles.new }
 {
-    let mut net: usize = 0;
-    while net < inputs {
+    for net in 0..inputs {
         let first = excitation::excitation_of(first_allowed(codes[net]));
         singles[net] = excitation::single(first).code;
-        net += 1;
     }
 }
 
@@ -68,21 +61,20 @@ pub fn write_probe(codes: &[u8], inputs: usize, pattern: &mut [u8])
     requires { (inputs ≤ length codes.now) × (inputs ≤ length pattern.old) }
     ensures { Rewritten (pattern_byte (probe (sets_in inputs codes.now))) 0 inputs pattern.old pattern.new }
 {
-    let mut net: usize = 0;
-    while net < inputs {
+    for net in 0..inputs {
         pattern[net] = first_allowed(codes[net]);
-        net += 1;
     }
 }
 
 // The codes of a child's sets: those of its parent, but for the input that is split, whose set has the excitation of byte e alone.
+// Form kept: what may not change: the search calls it with a byte, and goes through the four bytes.
 pub fn child_codes(parent: &[u8], input: Net, e: u8) -> [u8; 64]
     requires { (length parent.now ≡ 64) × (input.0 < 64) }
     ensures { result ≡ child_codes parent.now input.0 e }
 {
     let net = input.0;
     let mut codes = [0u8; 64];
-    store::copy(parent, 0, &mut codes, 0, 64);
+    codes.copy_from_slice(parent);
     codes[net] = excitation::single(excitation::excitation_of(e)).code;
     codes
 }

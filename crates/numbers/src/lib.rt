@@ -1,7 +1,13 @@
-// Numbers of the machine: the greater and the lesser of two, and widening. A function for each type.
+// Numbers of the machine: the first place at which one is greatest, and words in bytes.
 #![tactic(auto)]
 
 ghost use Rattle.std.specs.Prelude.{◌≡◌, ◌<◌, max, min};
+
+mod greatest;
+mod words;
+
+pub use greatest::first_greatest;
+pub use words::{read_word, write_word};
 
 // The greater of two numbers.
 pub fn max_usize(a: usize, b: usize) -> usize

@@ -17,7 +17,8 @@ use Rattle.excitation.specs.declared.Excitation.{Excitation}
 use Rattle.excitation.proofs.Finite.{for_each}
 use Rattle.excitation.proofs.Sets.{same_self, same_gives}
 use Rattle.excitation.proofs.Bytes.{byte_low, byte_back}
-use Rattle.rows.specs.Rows.{word_from, bit_from, set_from, set_in, place_of, RowRead, RowWritten}
+use Rattle.numbers.specs.Words.{word_from}
+use Rattle.rows.specs.Rows.{bit_from, set_from, set_in, place_of, RowRead, RowWritten}
 use Rattle.rows.proofs.Rows.{Written, word_bit, written_bit, kept_bit}
 
 -- The words of a part stand in the order of the bytes that name excitations.

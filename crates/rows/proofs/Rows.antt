@@ -5,8 +5,7 @@ use mathlib.Core.Bool.{cond}
 use mathlib.Core.List.{List}
 use mathlib.Core.Logic.{◌⊎◌, inl, inr, ⊎_elim}
 use mathlib.Core.Path.{◌≡◌, refl, ap, ap₂, sym, subst, ◌∙◌}
-use native.Mathlib.Nat.{add_comm, mul_comm, pow-suc, div-div-eq-div-mul}
-use native.Mathlib.Numerals.{add-one}
+use native.Mathlib.Nat.{add_comm, mul_comm, pow-suc}
 use native.Mathlib.Omega.{arith}
 use lib.Arith.{digits_lt}
 use lib.Dec.{ltb}
@@ -21,7 +20,8 @@ use Rattle.excitation.specs.UncertaintySet.{UncertaintySet, decode}
 use Rattle.excitation.proofs.Sets.{four_members}
 use Rattle.parts.specs.Parts.{set_at}
 use Rattle.parts.specs.declared.Part.{Part}
-use Rattle.rows.specs.Rows.{word_from, bit_from, set_from, set_in, PartWritten, HasRow, RowMade}
+use Rattle.numbers.specs.Words.{word_from}
+use Rattle.rows.specs.Rows.{bit_from, set_from, set_in, PartWritten, HasRow, RowMade}
 
 module _ (bytes : List ℕ) (small : (i : ℕ) → get_or bytes i 0 < 256) where
   -- The halves of a word, high first.
@@ -67,9 +67,7 @@ module _ (bytes : List ℕ) (small : (i : ℕ) → get_or bytes i 0 < 256) where
       ap (bit_at (hi * 2 ^ (8 * p) + lo)) (sym split) ∙ bit_high hi (8 * p) lo j (word_below n at)
       ∙ word_bit n (at + p) j (omega arith) ∙ ap₂ (λ i j. bit_at (get_or bytes i 0) j) place here)
 
--- The bytes of a word, and their bits.
-pub next_byte : (word i : ℕ) → word / 256 ^ i / 256 ≡ word / 256 ^ (i + 1)
-next_byte word i = div-div-eq-div-mul word (256 ^ i) 256 ∙ ap (λ x. word / x) (sym (pow-suc 256 i) ∙ ap (λ x. 256 ^ x) (sym (add-one i)))
+-- The bits of a word's bytes.
 
 power_of_256 : (i : ℕ) → 256 ^ i ≡ 2 ^ (8 * i)
 power_of_256 zero = refl

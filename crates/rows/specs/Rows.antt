@@ -1,17 +1,12 @@
 -- Rows of 256 ticks in the lent work buffer, 160 bytes a net: 64 ticks of a net's sets are 32 bytes, a word of eight for each of l, h,
 -- hl and lh, lowest first.
-use Rattle.std.specs.Prelude.{ℕ, zero, suc, ◌+◌, ◌*◌, ◌/◌, ◌%◌, ◌^◌, ◌≤◌, ◌<◌, Bool, cond, List, ◌⊎◌, ◌≡◌, length, get_or}
+use Rattle.std.specs.Prelude.{ℕ, ◌+◌, ◌*◌, ◌/◌, ◌%◌, ◌≤◌, ◌<◌, Bool, cond, List, ◌⊎◌, ◌≡◌, length, get_or}
 use Rattle.bits.specs.Bits.{bit_at, row_bit}
 use Rattle.excitation.specs.Excitation.{same}
 use Rattle.excitation.specs.UncertaintySet.{UncertaintySet, member}
 use Rattle.excitation.specs.declared.Excitation.{Excitation}
 use Rattle.parts.specs.Parts.{set_at}
 use Rattle.parts.specs.declared.Part.{Part}
-
--- The number of the 2 ^ n bytes from a place on: its low half, then its high half.
-unfoldable pub word_from : ℕ → List ℕ → ℕ → ℕ
-word_from zero bytes at = get_or bytes at 0
-word_from (suc n) bytes at = word_from n bytes at + 2 ^ (8 * 2 ^ n) * word_from n bytes (at + 2 ^ n)
 
 -- Bit k of the bytes from a place on.
 unfoldable pub bit_from : List ℕ → ℕ → ℕ → Bool

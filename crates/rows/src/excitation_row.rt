@@ -2,23 +2,22 @@
 ghost use Rattle.std.specs.Prelude.{◌+◌, ◌*◌, ◌≤◌, ◌<◌, ◌≡◌, length};
 ghost use Rattle.rows.specs.Rows.{HasRow, place_of, RowRead, RowWritten};
 
-use super::store;
 use excitation::Excitation;
 
+// Form kept: what may not change: the crates above call `read_row` and `write_row` with the lent work buffer and a net, and `HasRow` in
+// their contracts says what the two have to do with each other.
+
 // Where the word of an excitation stands in a part.
+#[tactic(auto, unfolding(crate::specs::Rows::place_of))]
 fn place(e: Excitation) -> usize
     ensures { (result ≡ place_of e) × (result ≤ 24) }
 {
-    if e.before {
-        if e.after {
-            return 8;
-        }
-        return 16;
+    match (e.before, e.after) {
+        (false, false) => 0,
+        (true, true) => 8,
+        (true, false) => 16,
+        (false, true) => 24,
     }
-    if e.after {
-        return 24;
-    }
-    0
 }
 
 // The ticks at which a net's sets have an excitation.
@@ -28,10 +27,10 @@ pub fn read_row(work: &[u8], net: usize, e: Excitation) -> [u64; 4]
 {
     let at = 160 * net + place(e);
     [
-        store::read_word(work, at),
-        store::read_word(work, at + 32),
-        store::read_word(work, at + 64),
-        store::read_word(work, at + 96),
+        numbers::read_word(work, at),
+        numbers::read_word(work, at + 32),
+        numbers::read_word(work, at + 64),
+        numbers::read_word(work, at + 96),
     ]
 }
 
@@ -41,9 +40,7 @@ pub fn write_row(work: &mut [u8], net: usize, e: Excitation, row: &[u64])
     ensures { RowWritten e net row.now work.old work.new }
 {
     let at = 160 * net + place(e);
-    let mut part: usize = 0;
-    while part < 4 {
-        store::write_word(work, at + 32 * part, row[part]);
-        part += 1;
+    for part in 0..4 {
+        numbers::write_word(work, at + 32 * part, row[part]);
     }
 }

@@ -4,7 +4,6 @@
 
 mod excitation_row;
 mod part;
-mod store;
 
 pub use excitation_row::{read_row, write_row};
 pub use part::{read_part, write_part};

@@ -1,4 +1,3 @@
-pub mod Words
 pub mod Changes
 pub mod Totals
 pub mod Drops

@@ -1,13 +1,20 @@
 -- Laws of the quiet tick, and of the scan by which the code finds it.
 -- Assumes nothing.
 use Rattle.std.proofs.Common.{◌≡◌, ℕ, ◌+◌, ◌<◌, ◌≤◌, true, false, not, eqb, List, length, sym, refl, ◌∙◌, arith, eqb-true}
-use mathlib.Core.Bool.{false≢true}
+use mathlib.Core.Bool.{false≢true, or-false, false-or, or_assoc}
+use Rattle.std.specs.List.{list_any, range_with_len}
 use borrow.Author.Tests.{not-false}
 use borrow.Table.Steps.{cases}
-use Rattle.laws.specs.Below.{last_below}
+use Rattle.laws.specs.Below.{any_below, last_below}
 use Rattle.laws.proofs.Below.{last_next, any_fails, any_none, last_after, last_none, last_beyond, last_implied}
 use Rattle.sheet.specs.Quiet.{Empty, LastFlow, QuietFrom}
 use Rattle.sheet.specs.Sheet.{Sheet, sheet_in, flows_at, quiet_tick}
+
+-- Whether current flows at a tick, row by row from row 0 on.
+
+pub flows_ranged : (s : Sheet) (t : ℕ) → list_any (λ c. not (eqb (s c t) 0)) (range_with_len 0 16) ≡ flows_at s t
+unfolding flows_at any_below
+flows_ranged s t = simp (or_assoc, or-false, false-or) refl
 
 -- Where no current flows at a tick every row is 0 there, and the other way round.
 

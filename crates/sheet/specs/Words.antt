@@ -5,7 +5,3 @@ use Rattle.std.specs.Prelude.{◌≡◌, ℕ, List, length, slice_index}
 pub record Cleared (words : List ℕ) : Type 0 where
   pub long : length words ≡ 8192
   pub at : (i : ℕ) → slice_index words i ≡ 0
-
--- The word at a place.
-unfoldable pub word_of : List ℕ → ℕ → ℕ
-word_of words i = slice_index words i

@@ -8,6 +8,9 @@ mod drop;
 mod quiet;
 mod restore;
 
+// Form kept: what may not change: the crates above lend a sheet as a slice, whose length the contracts of `clear`, `restore_rows`,
+// `greatest_drop` and `quiet_tick` give.
+
 // A word of a sheet, in microamperes (request 5).
 pub type Word = u64;
 
@@ -20,9 +23,5 @@ pub fn clear(sheet: &mut [Word])
     requires { length sheet.old ≡ 8192 }
     ensures { Cleared sheet.new }
 {
-    let mut i: usize = 0;
-    while i < 8192 {
-        sheet[i] = 0;
-        i += 1;
-    }
+    sheet.fill(0);
 }

@@ -10,24 +10,16 @@ fn flows_at(sheet: &[Word], t: usize) -> bool
     requires { (length sheet.now ≡ 8192) × (t < 512) }
     ensures { result ≡ flows_at (sheet_in sheet.now) t }
 {
-    let mut contact: usize = 0;
-    while contact < 16 {
-        if sheet[512 * contact + t] != 0 {
-            return true;
-        }
-        contact += 1;
-    }
-    false
+    (0..16).any(|contact| sheet[512 * contact + t] != 0)
 }
 
 // The last tick at which some row of a sheet is not 0, and 0 for an empty sheet, where the sheet has no current from tick `stop` on.
+#[tactic(auto, unfolding(laws::specs::Below::last_below))]
 pub fn quiet_tick(sheet: &[Word], stop: usize) -> usize
     requires { QuietFrom stop sheet.now }
     ensures { result ≡ quiet_tick (sheet_in sheet.now) }
 {
-    let mut t = stop;
-    while 0 < t {
-        t -= 1;
+    for t in (0..stop).rev() {
         if flows_at(sheet, t) {
             return t;
         }

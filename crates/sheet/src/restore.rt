@@ -7,16 +7,15 @@ ghost use Rattle.sheet.specs.Changes.{restored, Restored};
 use super::Word;
 
 // The row that starts at word `start`, at each tick before `stop`.
+#[tactic(auto, unfolding(laws::specs::Below::sum_below))]
 fn restore_row(sheet: &mut [Word], start: usize, stop: usize)
     requires { (length sheet.old ≡ 8192) × (start + 512 ≤ 8192) × (stop ≤ 512) }
     ensures { Rewritten (restored (λ k. slice_index sheet.old (start + k))) start stop sheet.old sheet.new }
 {
     let mut current: Word = 0;
-    let mut t: usize = 0;
-    while t < stop {
-        current = std::num::wrapping_add_u64(current, sheet[start + t]);
+    for t in 0..stop {
+        current = current.wrapping_add(sheet[start + t]);
         sheet[start + t] = current;
-        t += 1;
     }
 }
 
@@ -25,9 +24,7 @@ pub fn restore_rows(sheet: &mut [Word], stop: usize)
     requires { (length sheet.old ≡ 8192) × (stop ≤ 512) }
     ensures { Restored stop sheet.old sheet.new }
 {
-    let mut contact: usize = 0;
-    while contact < 16 {
+    for contact in 0..16 {
         restore_row(sheet, 512 * contact, stop);
-        contact += 1;
     }
 }

@@ -1,27 +1,16 @@
 -- `cases::choice::choose` meets its contract. The loop's invariant: the scan of the rest of the list is that of the whole.
 -- Assumes nothing.
-use mathlib.Core.Path.{refl, ◌∙◌}
+use mathlib.Core.Path.{◌∙◌}
 use native.Mathlib.Omega.{arith}
 use Rattle.cases.proofs.Chosen.{scan_found, scan_next, scan_end}
 use Rattle.cases.proofs.choice.choose.Goals as goal
-
-pub loop-k-init : goal.loop-k-init
-loop-k-init c = (omega arith, refl)
-
-pub bounds-order-k : goal.bounds-order-k
-bounds-order-k c = omega (arith, c.requires.2.long)
-
-pub bounds-codes-net : goal.bounds-codes-net
-bounds-codes-net c =
-    let pre = c.requires in
-    omega (arith, c.usize_from_u8-net.ensures.0, pre.1, pre.2.low _ c.loop-k-test.true)
 
 pub returns-then-undecided : goal.returns-then-undecided
 returns-then-undecided c =
     let pre = c.requires in
     let taken = c.loop-k-test.true in
-    let net = c.usize_from_u8-net.ensures.0 in (
-      scan_found pre.2 _ _ _ taken net c.is_undecided-undecided.ensures c.if-undecided.true ∙ c.loop-k.invariant.1,
+    let net = c.from-net.ensures in (
+      scan_found pre.2 _ _ _ taken net c.is_undecided-undecided.ensures c.if-undecided.true ∙ c.loop-k.invariant,
       omega (arith, net, pre.2.low _ taken),
     )
 
@@ -29,10 +18,10 @@ pub loop-k-preserved : goal.loop-k-preserved
 loop-k-preserved c =
     let pre = c.requires in
     let taken = c.loop-k-test.true in
-    let net = c.usize_from_u8-net.ensures.0 in
-    (omega arith, scan_next pre.2 _ _ _ taken net c.is_undecided-undecided.ensures c.if-undecided.false ∙ c.loop-k.invariant.1)
+    let net = c.from-net.ensures in
+    scan_next pre.2 _ _ _ taken net c.is_undecided-undecided.ensures c.if-undecided.false ∙ c.loop-k.invariant
 
 pub returns : goal.returns
 returns c =
     let pre = c.requires in
-    (scan_end pre.2 _ c.loop-k.k (omega arith) ∙ c.loop-k.invariant.1, omega (arith, pre.0))
+    (scan_end pre.2 _ c.loop-k.k (omega arith) ∙ c.loop-k.invariant, omega (arith, pre.0))

@@ -1,6 +1,5 @@
 -- `cases::sets::write_probe` meets its contract.
 -- Assumes nothing.
-use Prim.Native.Nat.{◌-◌, ◌≤◌}
 use Rattle.laws.specs.Rewritten.{Rewritten}
 use Rattle.excitation.specs.UncertaintySet.{sets_in}
 use Rattle.cases.specs.Case.{probe}
@@ -8,7 +7,4 @@ use Rattle.cases.specs.Store.{pattern_byte}
 use Rattle.cases.proofs.sets.write_probe.Given as goal
 
 abbrev pub invariant-loop-net : goal.invariant-loop-net
-invariant-loop-net l = (l.net ≤ l.inputs) × Rewritten (pattern_byte (probe (sets_in l.inputs l.codes))) 0 l.net l.initial.pattern l.pattern
-
-abbrev pub decreases-loop-net : goal.decreases-loop-net
-decreases-loop-net l = l.inputs - l.net
+invariant-loop-net l = Rewritten (pattern_byte (probe (sets_in l.inputs l.codes))) 0 l.net l.initial.pattern l.pattern

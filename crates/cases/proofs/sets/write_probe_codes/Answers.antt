@@ -1,27 +1,15 @@
 -- `cases::sets::write_probe_codes` meets its contract.
 -- Assumes nothing.
-use mathlib.Core.Path.{◌≡◌, ap, ◌∙◌}
+use mathlib.Core.Path.{ap, ◌∙◌}
 use native.Mathlib.Omega.{arith}
-use Rattle.laws.proofs.Rewritten.{rewritten_none, rewritten_next}
+use Rattle.laws.proofs.Rewritten.{rewritten_next}
 use Rattle.excitation.specs.Excitation.{excitation_of}
 use Rattle.excitation.specs.UncertaintySet.{code, single}
 use Rattle.excitation.proofs.Bytes.{byte_back}
 use Rattle.cases.proofs.sets.write_probe_codes.Goals as goal
 
-pub loop-net-init : goal.loop-net-init
-loop-net-init c = (omega arith, rewritten_none _ _ _)
-
-pub bounds-singles-net : goal.bounds-singles-net
-bounds-singles-net c = omega (arith, c.loop-net.invariant.1.long)
-
 pub loop-net-preserved : goal.loop-net-preserved
 loop-net-preserved c =
     let loop = c.loop-net in
     let first = c.excitation_of-first.ensures ∙ ap excitation_of c.first_allowed.ensures ∙ byte_back _ in
-    (omega arith, rewritten_next _ _ loop.net _ _ _ _ (omega arith) (omega arith) (c.single.ensures ∙ ap (λ e. code (single e)) first) loop.invariant.1)
-
-pub shape_of-singles : goal.shape_of-singles
-shape_of-singles c = c.loop-net.invariant.1.long
-
-pub returns : goal.returns
-returns c = let e : c.loop-net.net ≡ c.args.inputs = omega arith in rw e at c.loop-net.invariant.1
+    rewritten_next _ _ loop.net _ _ _ _ (omega arith) (omega arith) (c.single.ensures ∙ ap (λ e. code (single e)) first) loop.invariant

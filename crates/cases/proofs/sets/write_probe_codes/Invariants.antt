@@ -1,6 +1,5 @@
 -- `cases::sets::write_probe_codes` meets its contract.
 -- Assumes nothing.
-use Prim.Native.Nat.{◌-◌, ◌≤◌}
 use lib.ListN.{get_or}
 use Rattle.laws.specs.Rewritten.{Rewritten}
 use Rattle.excitation.specs.UncertaintySet.{code, decode, single}
@@ -8,7 +7,4 @@ use Rattle.cases.specs.Case.{first_allowed}
 use Rattle.cases.proofs.sets.write_probe_codes.Given as goal
 
 abbrev pub invariant-loop-net : goal.invariant-loop-net
-invariant-loop-net l = (l.net ≤ l.inputs) × Rewritten (λ net. code (single (first_allowed (decode (get_or l.codes net 0))))) 0 l.net l.initial.singles l.singles
-
-abbrev pub decreases-loop-net : goal.decreases-loop-net
-decreases-loop-net l = l.inputs - l.net
+invariant-loop-net l = Rewritten (λ net. code (single (first_allowed (decode (get_or l.codes net 0))))) 0 l.net l.initial.singles l.singles

@@ -5,7 +5,8 @@ use mathlib.Core.Path.{◌≡◌, ap, ◌∙◌}
 use Rattle.bits.specs.Bits.{bit_at}
 use Rattle.excitation.proofs.Sets.{four_members}
 use Rattle.parts.specs.Parts.{set_at}
-use Rattle.rows.specs.Rows.{word_from, bit_from, set_from}
+use Rattle.numbers.specs.Words.{word_from}
+use Rattle.rows.specs.Rows.{bit_from, set_from}
 use Rattle.rows.proofs.Rows.{word_bit}
 use Rattle.rows.proofs.part.read_from.Goals as goal
 

@@ -1,38 +1,18 @@
 -- `sheet::drop::add_contact` meets its contract.
 -- Assumes nothing.
-use Rattle.std.proofs.Common.{◌≡◌, refl, arith}
-use Rattle.laws.proofs.Rewritten.{rewritten_none, rewritten_next}
+use Rattle.std.proofs.Common.{refl, arith}
+use Rattle.laws.proofs.Rewritten.{rewritten_next}
 use Rattle.sheet.proofs.Drops.{to_contact, contact_fits}
 use Rattle.sheet.proofs.drop.add_contact.Goals as goal
 
-pub loop-t-init : goal.loop-t-init
-loop-t-init c = (omega arith, rewritten_none _ 0 _)
-
-pub bounds-sums-t : goal.bounds-sums-t
-bounds-sums-t c = omega (arith, c.loop-t.invariant.1.long, c.requires.long, c.requires.in_row)
-
 pub overflow_mul-sums : goal.overflow_mul-sums
-overflow_mul-sums c = omega (arith, contact_fits c.requires (omega arith) c.loop-t.invariant.1 refl)
+overflow_mul-sums c = omega (arith, contact_fits c.requires (omega arith) c.loop-t.invariant refl)
 
 pub overflow_add-sums-in-loop-t : goal.overflow_add-sums-in-loop-t
-overflow_add-sums-in-loop-t c = omega (arith, contact_fits c.requires (omega arith) c.loop-t.invariant.1 refl)
-
-pub bounds-sums-t-in-loop-t : goal.bounds-sums-t-in-loop-t
-bounds-sums-t-in-loop-t c = omega (arith, c.loop-t.invariant.1.long, c.requires.long, c.requires.in_row)
+overflow_add-sums-in-loop-t c = omega (arith, contact_fits c.requires (omega arith) c.loop-t.invariant refl)
 
 pub loop-t-preserved : goal.loop-t-preserved
 loop-t-preserved c =
-    let loop = c.loop-t in (
-      omega arith,
-      rewritten_next _ 0 loop.t _ _ _ _ (omega arith) (omega (arith, c.requires.long, c.requires.in_row))
-          (to_contact c.args.resistance c.args.sheet.now c.args.start loop.invariant.1 refl) loop.invariant.1,
-    )
-
-pub shape_of-sums : goal.shape_of-sums
-shape_of-sums c = c.loop-t.invariant.1.long
-
-pub returns : goal.returns
-returns c =
     let loop = c.loop-t in
-    let e : loop.t ≡ c.args.stop = omega arith in
-    rw e at loop.invariant.1
+    rewritten_next _ 0 loop.t _ _ _ _ (omega arith) (omega (arith, c.requires.long, c.requires.in_row))
+    (to_contact c.args.resistance c.args.sheet.now c.args.start loop.invariant refl) loop.invariant

@@ -1,44 +1,23 @@
 -- `sheet::drop::greatest_drop` meets its contract.
 -- Assumes nothing.
-use Rattle.std.proofs.Common.{refl, ◌∙◌, arith}
-use Rattle.laws.specs.Below.{max_below}
+use Rattle.std.proofs.Common.{◌∙◌, arith}
 use Rattle.laws.proofs.Rewritten.{rewritten_first}
-use Rattle.sheet.proofs.Drops.{tick_fits, drop_none, tick_taken, tick_passed, ticks_all}
+use Rattle.sheet.proofs.Drops.{tick_taken, tick_passed, ticks_all}
 use Rattle.sheet.proofs.drop.greatest_drop.Goals as goal
 use Rattle.sheet.proofs.drop.greatest_drop.Goals.{then-most-bounds, else-most-bounds}
-
-pub returns-then-stop-eq0 : goal.returns-then-stop-eq0
-returns-then-stop-eq0 c = drop_none c.args.table.now c.requires (omega arith)
-
-pub bound_ticks-requires : goal.bound_ticks-requires
-bound_ticks-requires c = (c.requires, refl)
-
-pub tick_drop-most-requires : goal.tick_drop-most-requires
-tick_drop-most-requires c =
-    tick_fits c.requires c.argmax.ensures.1
-
-pub loop-t-init : goal.loop-t-init
-unfolding max_below
-loop-t-init c = (omega arith, omega arith)
-
-pub tick_drop-requires : goal.tick_drop-requires
-tick_drop-requires c =
-    tick_fits c.requires (omega (arith, c.loop-t-test.true))
 
 pub loop-t-preserved : goal.loop-t-preserved
 loop-t-preserved c =
     let table = c.args.table.now in
     let sheet = c.args.sheet.now in
     let bounded = c.bound_ticks.ensures in
-    let loop = c.loop-t in (
-      omega arith,
-      elim c.if-most-bounds.branch [
-        | then-most-bounds w ↦ tick_taken table sheet _ loop.t loop.invariant.1 w.tick_drop.ensures (w.most-is ∙ w.max_u64-most.ensures)
-        | else-most-bounds w ↦ tick_passed table sheet _ loop.t loop.invariant.1 (rewritten_first _ _ _ _ bounded loop.t (omega arith)) w.if-most-bounds.false w.most-is
-      ],
-    )
+    let loop = c.loop-t in
+    elim c.if-most-bounds.branch [
+      | then-most-bounds w ↦ tick_taken table sheet _ loop.t loop.invariant w.tick_drop.ensures (w.most-is ∙ w.max-most.ensures)
+      | else-most-bounds w ↦ tick_passed table sheet _ loop.t loop.invariant (rewritten_first _ _ _ _ bounded loop.t (omega arith)) w.if-most-bounds.false w.most-is
+    ]
 
 pub returns : goal.returns
 returns c =
     let loop = c.loop-t in
-    ticks_all c.args.table.now c.args.sheet.now _ loop.t loop.invariant.1 c.requires (omega arith) c.argmax.ensures.1 c.tick_drop-most.ensures
+    ticks_all c.args.table.now c.args.sheet.now _ loop.t loop.invariant c.requires (omega arith) c.first_greatest-first.ensures.inside c.tick_drop-most.ensures

@@ -1,11 +1,8 @@
 -- `sheet::drop::most_resistance` meets its contract.
 -- Assumes nothing.
-use Rattle.std.proofs.Common.{◌≡◌, ◌+◌, ◌-◌, ◌*◌, ◌≤◌, get_or}
+use Rattle.std.proofs.Common.{◌≡◌, ◌+◌, ◌*◌, get_or}
 use Rattle.laws.specs.Below.{max_below}
 use Rattle.sheet.proofs.drop.most_resistance.Given as goal
 
 abbrev pub invariant-loop-node : goal.invariant-loop-node
-invariant-loop-node l = (l.node ≤ l.nodes) × (l.most ≡ max_below l.node (λ n. get_or l.table (16 * n + l.contact) 0))
-
-abbrev pub decreases-loop-node : goal.decreases-loop-node
-decreases-loop-node l = l.nodes - l.node
+invariant-loop-node l = l.most ≡ max_below l.node (λ n. get_or l.table (16 * n + l.contact) 0)

@@ -1,29 +1,15 @@
 -- `sheet::quiet::flows_at` meets its contract.
 -- Assumes nothing.
-use Rattle.std.proofs.Common.{◌≡◌, not, eqb, sym, refl, ◌∙◌, arith, eq-eqb, ne_eqb}
-use Rattle.laws.specs.Below.{any_below}
-use Rattle.laws.proofs.Below.{any_next, any_passes}
-use Rattle.sheet.specs.Sheet.{sheet_in, flows_at}
+use Rattle.std.proofs.Common.{rules, not, eqb, refl, ◌∙◌}
+use borrow.Author.Tests.{tests}
+use Rattle.std.proofs.lemmas.Iterator.{YieldsList-from_range}
+use Rattle.std.proofs.lemmas.Iterator.Search.{any_from_yields_List}
+use Rattle.sheet.specs.Sheet.{sheet_in}
+use Rattle.sheet.proofs.QuietTick.{flows_ranged}
 use Rattle.sheet.proofs.quiet.flows_at.Goals as goal
 
-pub loop-contact-init : goal.loop-contact-init
-unfolding any_below
-loop-contact-init c = (omega arith, refl)
-
-pub returns-then-sheet-contact-ne0 : goal.returns-then-sheet-contact-ne0
-unfolding flows_at
-returns-then-sheet-contact-ne0 c =
-    let loop = c.loop-contact in
-    sym (any_passes 16 (λ k. not (eqb (sheet_in c.args.sheet.now k c.args.t) 0)) loop.contact (omega arith) (rw (ne_eqb _ 0 c.if-sheet-contact-ne0.true) refl))
-
-pub loop-contact-preserved : goal.loop-contact-preserved
-loop-contact-preserved c =
-    let loop = c.loop-contact in
-    (omega arith, any_next loop.contact _ ∙ rw (loop.invariant.1, eq-eqb _ 0 c.if-sheet-contact-ne0.false) refl)
-
 pub returns : goal.returns
-unfolding flows_at
 returns c =
-    let loop = c.loop-contact in
-    let e : loop.contact ≡ 16 = omega arith in
-    sym (rw e at loop.invariant.1)
+    any_from_yields_List (λ k. not (eqb (sheet_in c.args.sheet.now k c.args.t) 0)) _ _ _ c.any.ensures.ran (YieldsList-from_range 0 16 16 refl refl)
+    (λ x b q k. search (rules, tests))
+    ∙ flows_ranged (sheet_in c.args.sheet.now) c.args.t

@@ -1,36 +1,15 @@
 -- `sheet::restore::restore_row` meets its contract.
 -- Assumes nothing.
-use Rattle.std.proofs.Common.{◌≡◌, ◌+◌, get_or, refl, inr, arith}
-use Rattle.laws.specs.Below.{sum_below}
-use Rattle.laws.proofs.Rewritten.{rewritten_none, rewritten_next}
+use Rattle.std.proofs.Common.{◌+◌, get_or, refl, inr, arith}
+use Rattle.laws.proofs.Rewritten.{rewritten_next}
 use Rattle.sheet.proofs.Changes.{tick_restored}
 use Rattle.sheet.proofs.restore.restore_row.Goals as goal
-
-pub loop-t-init : goal.loop-t-init
-unfolding sum_below
-loop-t-init c = (omega arith, omega arith, rewritten_none _ _ _)
-
-pub bounds-sheet-start : goal.bounds-sheet-start
-bounds-sheet-start c = omega (arith, c.loop-t.invariant.2.long)
-
-pub bounds-sheet-start-in-loop-t : goal.bounds-sheet-start-in-loop-t
-bounds-sheet-start-in-loop-t c = omega (arith, c.loop-t.invariant.2.long)
 
 pub loop-t-preserved : goal.loop-t-preserved
 loop-t-preserved c =
     let loop = c.loop-t in
-    let next = tick_restored (λ k. get_or c.args.sheet.now (c.args.start + k) 0) loop.t loop.invariant.1
-    (loop.invariant.2.rest (c.args.start + loop.t) (inr (omega arith))) c.wrapping_add_u64-current.ensures.value in (
-      omega arith,
+    let next = tick_restored (λ k. get_or c.args.sheet.now (c.args.start + k) 0) loop.t loop.invariant.0
+    (loop.invariant.1.rest (c.args.start + loop.t) (inr (omega arith))) refl in (
       next.0,
-      rewritten_next _ c.args.start loop.t _ _ _ _ refl (omega (arith, c.requires.0)) next.1 loop.invariant.2,
+      rewritten_next _ c.args.start loop.t _ _ _ _ refl (omega (arith, c.requires.0)) next.1 loop.invariant.1,
     )
-
-pub shape_of-sheet : goal.shape_of-sheet
-shape_of-sheet c = c.loop-t.invariant.2.long
-
-pub returns : goal.returns
-returns c =
-    let loop = c.loop-t in
-    let e : loop.t ≡ c.args.stop = omega arith in
-    rw e at loop.invariant.2

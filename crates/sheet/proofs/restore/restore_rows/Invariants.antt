@@ -1,11 +1,7 @@
 -- `sheet::restore::restore_rows` meets its contract.
 -- Assumes nothing.
-use Rattle.std.proofs.Common.{◌-◌, ◌≤◌}
 use Rattle.sheet.specs.Changes.{RowsRestored}
 use Rattle.sheet.proofs.restore.restore_rows.Given as goal
 
 abbrev pub invariant-loop-contact : goal.invariant-loop-contact
-invariant-loop-contact l = (l.contact ≤ 16) × RowsRestored l.contact l.stop l.initial.sheet l.sheet
-
-abbrev pub decreases-loop-contact : goal.decreases-loop-contact
-decreases-loop-contact l = 16 - l.contact
+invariant-loop-contact l = RowsRestored l.contact l.stop l.initial.sheet l.sheet

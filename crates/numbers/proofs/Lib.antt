@@ -1,0 +1,2 @@
+pub mod WordBytes
+pub mod Ranges

@@ -1,9 +1,0 @@
--- `rows::store::read_word` meets its contract.
--- Assumes nothing.
-use native.Mathlib.Omega.{arith}
-use Rattle.rows.specs.Rows.{word_from}
-use Rattle.rows.proofs.store.read_word.Goals as goal
-
-pub returns : goal.returns
-unfolding word_from
-returns c = omega arith
