@@ -7,21 +7,21 @@ use Rattle.bounds.proofs.Sheets.{raised_next}
 use Rattle.bounds.proofs.draw.raise.Goals as goal
 
 pub loop-i-init : goal.loop-i-init
-loop-i-init c = (omega arith, rewritten_none _ _ _)
+loop-i-init c = rewritten_none _ _ _
 
 pub bounds-sheet-i : goal.bounds-sheet-i
-bounds-sheet-i c = omega (arith, c.loop-i.invariant.1.long)
+bounds-sheet-i c = omega (arith, c.loop-i.invariant.long)
 
 pub bounds-sheet-i-in-loop-i : goal.bounds-sheet-i-in-loop-i
-bounds-sheet-i-in-loop-i c = omega (arith, c.loop-i.invariant.1.long)
+bounds-sheet-i-in-loop-i c = omega (arith, c.loop-i.invariant.long)
 
 pub loop-i-preserved : goal.loop-i-preserved
 loop-i-preserved c =
     let loop = c.loop-i in
-    (omega arith, raised_next c.args.sheet.now c.args.other.now loop.sheet loop.i (omega arith) c.max_u64.ensures loop.invariant.1)
+    raised_next c.args.sheet.now c.args.other.now loop.sheet loop.i (omega arith) c.max.ensures loop.invariant
 
 pub shape_of-sheet : goal.shape_of-sheet
-shape_of-sheet c = c.loop-i.invariant.1.long
+shape_of-sheet c = c.loop-i.invariant.long
 
 pub returns : goal.returns
-returns c = let e : c.loop-i.i ≡ 8192 = omega arith in rw e at c.loop-i.invariant.1
+returns c = let e : c.loop-i.i ≡ 8192 = omega arith in rw e at c.loop-i.invariant
