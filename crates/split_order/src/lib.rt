@@ -14,15 +14,6 @@ mod key;
 mod reach;
 mod sort;
 
-// The four numbers that an input is sorted by.
-#[derive(Clone, Copy)]
-struct Four {
-    first: u64,
-    second: u64,
-    third: u64,
-    fourth: u64,
-}
-
 // What a maker that refuses returns.
 fn refused(r: Refusal) -> SplitOrder
     ensures { result ≡ order_after (Refused r) [] }

@@ -13,10 +13,8 @@ fn write_own(inputs: usize, words: &mut [u64])
     requires { (inputs ≤ 64) × (inputs ≤ length words.old) }
     ensures { Rewritten (λ input. 2 ^ input) 0 inputs words.old words.new }
 {
-    let mut input: usize = 0;
-    while input < inputs {
+    for input in 0..inputs {
         words[input] = 1 << input;
-        input += 1;
     }
 }
 
@@ -26,12 +24,9 @@ fn gate_word(gate: Gate, words: &[u64]) -> u64
     ensures { result ≡ gate_word gate words.now }
 {
     let mut word: u64 = 0;
-    let mut p: usize = 0;
-    while p < gate.used {
+    for p in 0..gate.used {
         let pin = gate.pins[p];
-        let at = pin.0;
-        word = word | words[at];
-        p += 1;
+        word |= words[pin.0];
     }
     word
 }
@@ -42,11 +37,9 @@ fn write_words(file: &[u8], nets: usize, inputs: usize, words: &mut [u64])
     ensures { Reached file.now inputs nets words.new }
 {
     write_own(inputs, words);
-    let mut net = inputs;
-    while net < nets {
+    for net in inputs..nets {
         let gate = view::gate(file, Net(net));
         words[net] = gate_word(gate, words);
-        net += 1;
     }
 }
 
@@ -56,10 +49,8 @@ fn reached_gates(words: &[u64], nets: usize, inputs: usize, source: Net) -> u16
     ensures { result ≡ reached_gates words.now nets inputs source.0 }
 {
     let mut count: u64 = 0;
-    let mut net = inputs;
-    while net < nets {
+    for net in inputs..nets {
         count += (words[net] >> source.0) % 2;
-        net += 1;
     }
     count as u16
 }
@@ -71,9 +62,7 @@ pub fn write_cones(file: &[u8], nets: usize, inputs: usize, cones: &mut [u16])
 {
     let mut words = [0u64; 1024];
     write_words(file, nets, inputs, &mut words);
-    let mut net: usize = 0;
-    while net < inputs {
+    for net in 0..inputs {
         cones[net] = reached_gates(&words, nets, inputs, Net(net));
-        net += 1;
     }
 }

@@ -25,4 +25,4 @@ pub returns : goal.returns
 returns c =
     tried_more _ c.args.setting _ _ c.args.input.0 c.requires.3 c.args.e c.excitation_of.ensures c.contains.ensures
     c.requires.6 c.requires.0.accepted.few_inputs c.requires.1 c.requires.4 (ap not c.if-not-contains.false) c.child_codes-codes.ensures c.requires.5
-    c.evaluate_case-own.ensures c.min_u64.ensures c.put.ensures
+    c.evaluate_case-own.ensures c.min.ensures c.put.ensures

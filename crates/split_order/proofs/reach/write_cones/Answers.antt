@@ -13,7 +13,7 @@ pub write_words-requires : goal.write_words-requires
 write_words-requires c = (c.requires.0, refl)
 
 pub loop-net-init : goal.loop-net-init
-loop-net-init c = (omega arith, rewritten_none _ _ _)
+loop-net-init c = rewritten_none _ _ _
 
 pub slice_bounds-reached_gates-end : goal.slice_bounds-reached_gates-end
 slice_bounds-reached_gates-end c = sym c.write_words.ensures.long
@@ -31,7 +31,7 @@ offset_bounds-cones-net c =
 
 pub bounds-cones-net : goal.bounds-cones-net
 bounds-cones-net c =
-    omega (arith, c.requires.0.few_inputs, c.requires.1, c.loop-net.invariant.1.long)
+    omega (arith, c.requires.0.few_inputs, c.requires.1, c.loop-net.invariant.long)
 
 pub loop-net-preserved : goal.loop-net-preserved
 loop-net-preserved c =
@@ -39,13 +39,13 @@ loop-net-preserved c =
     let taken = c.loop-net-test.true in
     let few = c.requires.0.few_inputs in
     let size = c.reached_gates.ensures ∙ reached_all _ _ _ c.requires.0 _ _ c.write_words.ensures taken in
-    (omega arith, rewritten_next _ _ l.net _ _ _ _ (omega arith) (omega (arith, c.requires.1)) size l.invariant.1)
+    rewritten_next _ _ l.net _ _ _ _ (omega arith) (omega (arith, c.requires.1)) size l.invariant
 
 pub shape_of-cones : goal.shape_of-cones
-shape_of-cones c = c.loop-net.invariant.1.long
+shape_of-cones c = c.loop-net.invariant.long
 
 pub returns : goal.returns
 returns c =
     let l = c.loop-net in
     let e : l.net ≡ c.args.inputs = omega arith in
-    rw e at l.invariant.1
+    rw e at l.invariant

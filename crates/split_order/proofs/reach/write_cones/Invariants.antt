@@ -6,7 +6,4 @@ use Rattle.block.specs.Block.{cone_size}
 use Rattle.split_order.proofs.reach.write_cones.Given as goal
 
 abbrev pub invariant-loop-net : goal.invariant-loop-net
-invariant-loop-net l = (l.net ≤ l.inputs) × Rewritten (cone_size l.file) 0 l.net l.initial.cones l.cones
-
-abbrev pub decreases-loop-net : goal.decreases-loop-net
-decreases-loop-net l = l.inputs - l.net
+invariant-loop-net l = Rewritten (cone_size l.file) 0 l.net l.initial.cones l.cones
