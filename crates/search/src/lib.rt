@@ -18,16 +18,8 @@ mod arguments;
 mod run;
 mod split;
 
-// Where a split stands: how many cases there are, the place of the next child, and the drop that makes a probe the best.
-#[derive(Clone, Copy)]
-struct Step {
-    cases: usize,
-    next: CaseNumber,
-    threshold: u64,
-}
-
 // Above every upper number: the cap of the first case, which has no parent.
-const NO_CAP: u64 = 18446744073709551615;
+const NO_CAP: u64 = u64::MAX;
 
 // Makes the first case, the whole frame. Returns the drop that the next probe has to reach.
 fn make_first(
@@ -51,7 +43,6 @@ fn make_first(
         &codes,
         NO_CAP,
         0,
-        false,
         CaseNumber(0),
         sheet,
         pattern,

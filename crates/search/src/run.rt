@@ -1,10 +1,11 @@
 // The search's loop: the checks before each split, and the split.
-ghost use Rattle.std.specs.Prelude.{◌≡◌, ◌+◌, ◌*◌, ◌≤◌, length};
+ghost use Rattle.std.specs.Prelude.{◌+◌, ◌*◌, ◌≤◌, ◌<◌, length};
+ghost use Rattle.block.specs.Limits.{drop_limit};
 ghost use Rattle.operation.specs.SplitOrder.{NetsListed};
 ghost use Rattle.cases.specs.Probes.{ProbesCovered};
 ghost use Rattle.evaluation.specs.Evaluation.{Evaluable};
 ghost use Rattle.bounds.specs.Bounds.{simulated_drop};
-ghost use Rattle.search.specs.Steps.{Running, state_in, Ran};
+ghost use Rattle.search.specs.Steps.{Running, state_in, EndsSo, Ran};
 
 use super::split;
 use cases::store;
@@ -22,17 +23,27 @@ pub struct RunEnd {
     pub cases: usize,
 }
 
-// A run that ended so, which the loop says in three places.
-fn ended(outcome: Outcome, upper: u64, lower: u64, splits: u64, cases: usize) -> RunEnd
-    ensures { result ≡ record { outcome = outcome; upper = upper; lower = lower; splits = splits; cases = cases } }
+// The checks before a split, in order: how the run ends here, if it does.
+fn end_before_split(
+    upper: u64,
+    lower: u64,
+    ratio: u64,
+    splits: u64,
+    budget: u64,
+) -> Option<Outcome>
+    requires { (upper < drop_limit) × (lower < drop_limit) × (ratio ≤ 10000) }
+    ensures { EndsSo upper lower ratio splits budget result }
 {
-    RunEnd {
-        outcome,
-        upper,
-        lower,
-        splits,
-        cases,
+    if upper == lower {
+        return Some(Outcome::Exact);
     }
+    if 1000 * upper <= ratio * lower {
+        return Some(Outcome::Within);
+    }
+    if splits == budget {
+        return Some(Outcome::Spent);
+    }
+    None
 }
 
 // Runs the search from the first case on.
@@ -55,18 +66,19 @@ pub fn run(
     let mut cases: usize = 1;
     let mut best = threshold;
     let mut splits: u64 = 0;
+    // Form kept: the new form is no plainer: after a `for` over the splits stood an end of the run that is never reached.
     loop {
         let k = store::argmax(store, cases);
         let upper = store::upper(store, k);
         let lower = best - 1;
-        if upper == lower {
-            return ended(Outcome::Exact, upper, lower, splits, cases);
-        }
-        if 1000 * upper <= ratio * lower {
-            return ended(Outcome::Within, upper, lower, splits, cases);
-        }
-        if splits == budget {
-            return ended(Outcome::Spent, upper, lower, splits, cases);
+        if let Some(outcome) = end_before_split(upper, lower, ratio, splits, budget) {
+            return RunEnd {
+                outcome,
+                upper,
+                lower,
+                splits,
+                cases,
+            };
         }
         let step = split::split(
             file, setting, table, order, k, upper, cases, best, sheet, pattern, work, store,

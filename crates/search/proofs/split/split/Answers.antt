@@ -20,7 +20,7 @@ choose-input-requires c =
     (accepted.one_input, omega (arith, accepted.few_inputs, long), c.requires.3)
 
 pub loop-e-init : goal.loop-e-init
-loop-e-init c = (omega arith, refl, refl, splitting_begun c.requires.1)
+loop-e-init c = (refl, refl, splitting_begun c.requires.1)
 
 pub make_child-step-requires : goal.make_child-step-requires
 make_child-step-requires c =
@@ -28,25 +28,18 @@ make_child-step-requires c =
     let ready = c.requires.0 in
     let copied = c.read_sets.ensures in
     let below = c.loop-e-test.true in
-    let room = child_room c.requires.2.inside below c.requires.5 c.requires.4 at.invariant.3 in (
-      evaluable_kept ready at.invariant.1 at.invariant.2,
+    let room = child_room c.requires.2.inside below c.requires.5 c.requires.4 at.invariant.2 in (
+      evaluable_kept ready at.invariant.0 at.invariant.1,
       copied.long ∙ length-replicate {A = ℕ} 64 0,
       codes_copied c.args.setting.inputs ready.accepted.few_inputs c.args.store.now c.args.k.0 _ _ copied
           (c.requires.1.cases.codes c.args.k.0 c.requires.2.inside),
       c.choose-input.ensures.1,
       below,
-      at.invariant.3.best.long ∙ c.requires.1.pattern_long,
-      room.0,
-      room.1,
-      at.invariant.3.best.threshold_high,
-      parent_below ready.accepted.few_inputs c.requires.1 c.requires.2.inside c.requires.6 copied at.invariant.3,
+      at.invariant.2.best.long ∙ c.requires.1.pattern_long,
+      room,
+      at.invariant.2.best.threshold_high,
+      parent_below ready.accepted.few_inputs c.requires.1 c.requires.2.inside c.requires.6 copied at.invariant.2,
     )
-
-pub overflow_add-e : goal.overflow_add-e
-overflow_add-e c = omega (arith, c.loop-e-test.true)
-
-pub loop-e-smaller : goal.loop-e-smaller
-loop-e-smaller c = omega (arith, c.loop-e-test.true)
 
 pub loop-e-preserved : goal.loop-e-preserved
 loop-e-preserved c =
@@ -54,10 +47,9 @@ loop-e-preserved c =
     let at = c.loop-e in
     let accepted = c.requires.0.accepted in
     let copied = c.read_sets.ensures in (
-      omega (arith, c.loop-e-test.true),
-      made.auto.sheet ∙ at.invariant.1,
-      made.auto.work ∙ at.invariant.2,
-      splitting_next c.requires.2.inside c.loop-e-test.true c.requires.5 c.requires.4 at.invariant.3 accepted.few_inputs
+      made.auto.sheet ∙ at.invariant.0,
+      made.auto.work ∙ at.invariant.1,
+      splitting_next c.requires.2.inside c.loop-e-test.true c.requires.5 c.requires.4 at.invariant.2 accepted.few_inputs
           (copied.long ∙ length-replicate {A = ℕ} 64 0)
           (codes_copied c.args.setting.inputs accepted.few_inputs c.args.store.now c.args.k.0 _ _ copied
           (c.requires.1.cases.codes c.args.k.0 c.requires.2.inside))
@@ -65,19 +57,19 @@ loop-e-preserved c =
     )
 
 pub shape_of-sheet : goal.shape_of-sheet
-shape_of-sheet c = c.loop-e.invariant.1
+shape_of-sheet c = c.loop-e.invariant.0
 
 pub shape_of-pattern : goal.shape_of-pattern
-shape_of-pattern c = c.loop-e.invariant.3.best.long
+shape_of-pattern c = c.loop-e.invariant.2.best.long
 
 pub shape_of-work : goal.shape_of-work
-shape_of-work c = c.loop-e.invariant.2
+shape_of-work c = c.loop-e.invariant.1
 
 pub shape_of-store : goal.shape_of-store
-shape_of-store c = c.loop-e.invariant.3.stored.long
+shape_of-store c = c.loop-e.invariant.2.stored.long
 
 pub returns : goal.returns
 returns c =
     let done = c.loop-e in
     case_split c.args.order.now c.requires.0.accepted c.requires.1 c.requires.2 c.read_sets.ensures c.choose-input.ensures.0
-    (omega (arith, done.invariant.0, c.loop-e-test.false)) done.invariant.3
+    (omega arith) done.invariant.2

@@ -10,21 +10,6 @@ use Rattle.split_order.specs.declared.key.Four.{Four}
 use Rattle.split_order.proofs.Keys.{keys_none, keys_next}
 use Rattle.split_order.proofs.by_bounds.tried_keys.Goals as goal
 
-pub evaluate_case-cap-requires : goal.evaluate_case-cap-requires
-evaluate_case-cap-requires c =
-    (triable c.requires.0 (length-replicate {A = ℕ} 8192 0) refl, c.told-frame, c.requires.1)
-
-pub loop-net-init : goal.loop-net-init
-loop-net-init c =
-    let first = c.evaluate_case-cap in
-    (length-replicate {A = Four} 64 c.alone-keys.result, keys_none _ _, first.auto.sheet ∙ length-replicate {A = ℕ} 8192 0, refl)
-
-pub try_input-requires : goal.try_input-requires
-try_input-requires c =
-    let first = c.evaluate_case-cap in
-    let inv = c.loop-net.invariant in
-    (triable c.requires.0 inv.2 (inv.3 ∙ first.auto.work), c.told-frame, c.requires.1, c.loop-net-test.true, first.ensures.is)
-
 pub loop-net-preserved : goal.loop-net-preserved
 loop-net-preserved c =
     let inv = c.loop-net.invariant in
@@ -35,8 +20,3 @@ loop-net-preserved c =
       tried.auto.sheet ∙ inv.2,
       tried.auto.work ∙ inv.3,
     )
-
-pub returns : goal.returns
-returns c =
-    let e : c.loop-net.net ≡ c.args.setting.inputs = omega arith in
-    rw e at c.loop-net.invariant.1

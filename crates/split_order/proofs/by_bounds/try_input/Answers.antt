@@ -10,11 +10,6 @@ use native.Mathlib.Omega.{arith}
 use Rattle.split_order.proofs.Trying.{tried_none, tried_key, decided_key_lem}
 use Rattle.split_order.proofs.by_bounds.try_input.Goals as goal
 
-pub returns-then-not-is_undecided : goal.returns-then-not-is_undecided
-returns-then-not-is_undecided c =
-    subst (λ (key : Four). TriedKey c.args.file.now c.args.setting c.args.table.now c.args.frame.now c.args.input.0 (four_of key))
-    (sym c.alone.ensures) (decided_key_lem _ c.args.setting _ _ c.args.input.0 c.is_undecided.ensures (ap not c.if-not-is_undecided.true))
-
 pub loop-e-init : goal.loop-e-init
 loop-e-init c = (
   subst (TriedBelow c.args.file.now c.args.setting c.args.table.now c.args.frame.now c.args.input.0 0) (sym c.alone-tried.ensures)
@@ -22,17 +17,6 @@ loop-e-init c = (
   refl,
   refl,
 )
-
-pub try_child-tried-requires : goal.try_child-tried-requires
-try_child-tried-requires c =
-    let inv = c.loop-e.invariant in
-    (evaluable_kept c.requires.0 inv.1 inv.2, c.requires.1, c.requires.2, c.requires.3, c.loop-e-test.true, c.requires.4, inv.0)
-
-pub loop-e-preserved : goal.loop-e-preserved
-loop-e-preserved c =
-    let inv = c.loop-e.invariant in
-    let child = c.try_child-tried in
-    (child.ensures, child.auto.sheet ∙ inv.1, child.auto.work ∙ inv.2)
 
 pub returns : goal.returns
 returns c =

@@ -8,9 +8,6 @@ use Rattle.split_order.specs.declared.key.Four.{Four}
 use Rattle.split_order.proofs.Keys.{keys_none, keys_next}
 use Rattle.split_order.proofs.by_bounds.untried_keys.Goals as goal
 
-pub loop-net-init : goal.loop-net-init
-loop-net-init c = (length-replicate {A = Four} 64 c.alone-keys.result, keys_none _ _)
-
 pub loop-net-preserved : goal.loop-net-preserved
 loop-net-preserved c =
     let inv = c.loop-net.invariant in
@@ -19,8 +16,3 @@ loop-net-preserved c =
       keys_next (UntriedKey c.args.codes.now) _ c.loop-net.keys (omega (arith, c.requires, c.loop-net-test.true, inv.0))
           (record { undecided_is = made.0; decided_is = made.1 }) inv.1,
     )
-
-pub returns : goal.returns
-returns c =
-    let e : c.loop-net.net ≡ c.args.inputs = omega arith in
-    rw e at c.loop-net.invariant.1

@@ -11,12 +11,6 @@ use Rattle.split_order.proofs.ByCone.{ConeKey, cones_sort}
 use Rattle.split_order.proofs.Keys.{keys_none, keys_next}
 use Rattle.split_order.proofs.by_cone.cone_keys.Goals as goal
 
-pub loop-net-init : goal.loop-net-init
-loop-net-init c = (length-replicate {A = Four} 64 c.alone-keys.result, keys_none _ _)
-
-pub overflow_sub-narrow : goal.overflow_sub-narrow
-overflow_sub-narrow c = omega (arith, c.from-narrow.ensures, c.requires.1 _ c.loop-net-test.true)
-
 pub loop-net-preserved : goal.loop-net-preserved
 loop-net-preserved c =
     let inv = c.loop-net.invariant in (

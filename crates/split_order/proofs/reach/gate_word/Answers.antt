@@ -10,14 +10,6 @@ pub loop-p-init : goal.loop-p-init
 unfolding union_below
 loop-p-init c = refl
 
-pub offset_bounds-words-pin : goal.offset_bounds-words-pin
-offset_bounds-words-pin c =
-    let inside = c.requires.2 _ c.loop-p-test.true in omega arith
-
-pub bounds-words-pin : goal.bounds-words-pin
-bounds-words-pin c =
-    omega (arith, c.requires.0, c.requires.2 _ c.loop-p-test.true)
-
 pub loop-p-preserved : goal.loop-p-preserved
 loop-p-preserved c =
     let l = c.loop-p in

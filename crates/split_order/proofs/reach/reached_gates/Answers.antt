@@ -20,9 +20,3 @@ loop-net-preserved c =
 pub overflow_cast-result : goal.overflow_cast-result
 overflow_cast-result c =
     let l = c.loop-net in omega (arith, c.requires.1, reached_few _ _ _ _ _ l.invariant)
-
-pub returns : goal.returns
-returns c =
-    let l = c.loop-net in
-    let e : l.net ≡ c.args.nets = omega (arith, l.auto.net-end c.requires.0) in
-    rw e at l.invariant
