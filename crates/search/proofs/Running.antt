@@ -10,19 +10,18 @@ use Rattle.laws.specs.Below.{argmax}
 use Rattle.block.specs.Limits.{drop_limit}
 use Rattle.block.specs.Record.{File}
 use Rattle.std.specs.declared.option.Option.{Option}
-use Rattle.std.specs.declared.option.Option.TheVariants.{None, Some}
+use Rattle.std.specs.declared.option.Option.TheVariants.{Some}
 use Rattle.operation.specs.declared.Outcome.{Outcome}
 use Rattle.operation.specs.declared.Outcome.TheVariants.{Exact, Within, Spent}
 use Rattle.evaluation.specs.declared.Setting.{Setting}
 use Rattle.cases.specs.Choice.{first_undecided}
 use Rattle.cases.specs.Probes.{ProbesCovered}
 use Rattle.cases.specs.Records.{upper_in}
-use Rattle.cases.specs.Search.{State, search_from}
+use Rattle.cases.specs.Search.{search_from}
 use Rattle.cases.proofs.Records.{next_split_lem, greatest_upper_lem}
 use Rattle.cases.proofs.Probes.{split_covered}
 use Rattle.cases.proofs.Outcomes.{stop_exact, stop_within, stop_spent, goes_on}
 use Rattle.bounds.specs.Bounds.{simulated_drop, envelope_drop}
-use Rattle.search.specs.declared.run.RunEnd.{RunEnd}
 use Rattle.search.specs.Steps.{Running, PastKept, CaseToSplit, CaseSplit, EndsSo, Ran, best_in, state_in}
 
 -- What is kept past some cases is kept past more, and through two steps where it is in each.

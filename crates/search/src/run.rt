@@ -24,13 +24,7 @@ pub struct RunEnd {
 }
 
 // The checks before a split, in order: how the run ends here, if it does.
-fn end_before_split(
-    upper: u64,
-    lower: u64,
-    ratio: u64,
-    splits: u64,
-    budget: u64,
-) -> Option<Outcome>
+fn end_before_split(upper: u64, lower: u64, ratio: u64, splits: u64, budget: u64) -> Option<Outcome>
     requires { (upper < drop_limit) × (lower < drop_limit) × (ratio ≤ 10000) }
     ensures { EndsSo upper lower ratio splits budget result }
 {

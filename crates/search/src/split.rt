@@ -66,7 +66,9 @@ fn make_child(
     let codes = sets::child_codes(parent, input, e);
     let known = e == sets::first_allowed(code);
     if known {
-        make::bound_case(file, setting, table, &codes, cap, step.next, sheet, work, store);
+        make::bound_case(
+            file, setting, table, &codes, cap, step.next, sheet, work, store,
+        );
         return step.child_made(step.threshold);
     }
     let threshold = make::make_case(

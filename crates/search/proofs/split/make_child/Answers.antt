@@ -6,11 +6,8 @@ use native.Mathlib.Omega.{arith}
 use lib.ListN.{length, length-set}
 use borrow.Author.Tests.{eq-eqb}
 use Rattle.cases.proofs.Children.{child_coded}
-use Rattle.search.proofs.Children.{child_below, bounded_made, child_skipped, child_made}
+use Rattle.search.proofs.Children.{child_below, bounded_made, child_made}
 use Rattle.search.proofs.split.make_child.Goals as goal
-
-pub returns-then-not-contains : goal.returns-then-not-contains
-returns-then-not-contains c = child_skipped c.excitation_of.ensures c.contains.ensures (ap not c.if-not-contains.true)
 
 pub bound_case-requires : goal.bound_case-requires
 bound_case-requires c =
@@ -27,7 +24,7 @@ bound_case-requires c =
 pub returns-then-known : goal.returns-then-known
 returns-then-known c =
     let below = child_below c.args.file.now c.args.setting c.args.table.now c.args.parent.now c.args.input.0 c.args.e c.requires.0.accepted.few_inputs c.requires.1
-        c.requires.3 c.child_codes-codes.ensures c.first_allowed.ensures c.requires.8 (eq-eqb _ _ c.if-known.true) in
+    c.requires.3 c.child_codes-codes.ensures c.first_allowed.ensures c.requires.8 (eq-eqb _ _ c.if-known.true) in
     child_made c.excitation_of.ensures c.contains.ensures (ap not c.if-not-contains.false) c.child_codes-codes.ensures
     (bounded_made c.bound_case.ensures below (omega (arith, c.requires.7))) c.child_made.ensures
 
@@ -43,8 +40,3 @@ make_case-threshold-requires c =
       c.requires.5,
       c.requires.6,
     )
-
-pub returns : goal.returns
-returns c =
-    child_made c.excitation_of.ensures c.contains.ensures (ap not c.if-not-contains.false) c.child_codes-codes.ensures
-    c.make_case-threshold.ensures c.child_made-2.ensures

@@ -9,16 +9,6 @@ use Rattle.evaluation.proofs.Given.{evaluable_kept}
 use Rattle.search.proofs.Splitting.{child_room, parent_below, splitting_begun, splitting_next, case_split}
 use Rattle.search.proofs.split.split.Goals as goal
 
-pub read_sets-requires : goal.read_sets-requires
-read_sets-requires c =
-    (record { whole = omega (arith, c.requires.2.inside, c.requires.4); numbered = omega (arith, c.requires.2.inside, c.requires.5) }, length-replicate {A = ℕ} 64 0)
-
-pub choose-input-requires : goal.choose-input-requires
-choose-input-requires c =
-    let accepted = c.requires.0.accepted in
-    let long = c.read_sets.ensures.long ∙ length-replicate {A = ℕ} 64 0 in
-    (accepted.one_input, omega (arith, accepted.few_inputs, long), c.requires.3)
-
 pub loop-e-init : goal.loop-e-init
 loop-e-init c = (refl, refl, splitting_begun c.requires.1)
 
@@ -55,18 +45,6 @@ loop-e-preserved c =
           (c.requires.1.cases.codes c.args.k.0 c.requires.2.inside))
           c.choose-input.ensures.1 made.ensures,
     )
-
-pub shape_of-sheet : goal.shape_of-sheet
-shape_of-sheet c = c.loop-e.invariant.0
-
-pub shape_of-pattern : goal.shape_of-pattern
-shape_of-pattern c = c.loop-e.invariant.2.best.long
-
-pub shape_of-work : goal.shape_of-work
-shape_of-work c = c.loop-e.invariant.1
-
-pub shape_of-store : goal.shape_of-store
-shape_of-store c = c.loop-e.invariant.2.stored.long
 
 pub returns : goal.returns
 returns c =
