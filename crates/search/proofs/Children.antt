@@ -8,7 +8,7 @@ use native.Mathlib.Omega.{arith}
 use lib.Dec.{eqb}
 use lib.ListN.{length, get_or}
 use borrow.Author.Tests.{eqb-true}
-use Rattle.laws.proofs.Tests.{refuted, confirmed}
+use Rattle.laws.proofs.Tests.{confirmed}
 use Rattle.excitation.specs.Excitation.{excitation_of, byte_of}
 use Rattle.excitation.specs.UncertaintySet.{member, decode, sets_in}
 use Rattle.excitation.specs.declared.Excitation.{Excitation}
@@ -42,22 +42,11 @@ bounded_made bounded below low = record {
   reached = λ m. absurd (omega arith);
 }
 
--- A child skipped, and a child made.
+-- A child made.
 
 allowed_is : (parent : List ℕ) (input e : ℕ) {x : Excitation} {allowed : Bool} → x ≡ excitation_of e
     → allowed ≡ member x (decode (get_or parent input 0)) → allowed ≡ member (excitation_of e) (decode (get_or parent input 0))
 allowed_is parent input e is tested = tested ∙ ap (λ x. member x (decode (get_or parent input 0))) is
-
-pub child_skipped : {file : File} {setting : Setting} {table parent : List ℕ} {input e cap : ℕ} {step : Step} {store pattern : List ℕ}
-    {x : Excitation} {allowed : Bool} → x ≡ excitation_of e → allowed ≡ member x (decode (get_or parent input 0)) → not allowed ≡ true
-    → ChildMade file setting table parent input e cap step store pattern step store pattern
-child_skipped {parent} {input} {e} is tested h =
-    let no = refuted (allowed_is parent input e is tested) h in
-    record {
-      skipped = λ t. (refl, refl, refl);
-      made = λ t. absurd (false≢true (sym no ∙ t));
-      counted = λ t. absurd (false≢true (sym no ∙ t));
-    }
 
 pub child_made : {file : File} {setting : Setting} {table parent : List ℕ} {input e cap : ℕ} {step : Step} {store pattern : List ℕ}
     {x : Excitation} {allowed : Bool} {codes : List ℕ} {threshold : ℕ} {after : Step} {store' pattern' : List ℕ}

@@ -3,7 +3,6 @@
 use Prim.Native.Nat.{ℕ, ◌+◌, ◌*◌, ◌-◌, ◌≤◌, ◌<◌}
 use mathlib.Core.List.{List}
 use mathlib.Core.Path.{◌≡◌, refl, ap, sym, subst, ◌∙◌}
-use native.Mathlib.Nat.{mul-le-mul_right}
 use native.Mathlib.Omega.{arith}
 use lib.ListN.{length}
 use Rattle.laws.specs.Below.{argmax}
@@ -81,10 +80,6 @@ module _ {inputs n threshold : ℕ} {store pattern : List ℕ} (running : Runnin
     inside = inside;
     greatest = is ∙ ap (upper_in store) first ∙ sym (greatest_upper_lem inputs store n running.some);
   }
-
--- A ratio times a lower number is far below what a word holds.
-pub ratio_low : (ratio lower : ℕ) → ratio ≤ 10000 → lower < drop_limit → ratio * lower ≤ 10000 * drop_limit
-ratio_low ratio lower r l = let m : ratio * lower ≤ 10000 * lower = mul-le-mul_right lower r in omega arith
 
 -- A turn of the loop, by the checks before the split.
 
