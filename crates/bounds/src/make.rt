@@ -65,8 +65,8 @@ pub fn bound_case(
     requires { Evaluable file.now setting sheet.old work.old × (length codes.now ≡ 64) × SetCodes setting.inputs codes.now × HasCase store.old at.0 }
     ensures { CaseBounded file.now setting table.now codes.now cap at.0 store.old store.new }
 {
-    let own = evaluate::evaluate_case(file, setting, table, codes, sheet, work);
-    store::write_case(store, at, codes, cap.min(own));
+    let upper = evaluate::evaluate_case(file, setting, table, codes, sheet, work);
+    store::write_case(store, at, codes, cap.min(upper));
 }
 
 // Makes a case: writes its record and, where its probe's drop reaches the threshold, its probe. Returns the drop that the next probe has

@@ -1,6 +1,6 @@
 -- Laws of inputs tried: one child more, and the numbers of the inputs sort as the second maker asks.
 -- Assumes nothing.
-use Prim.Native.Nat.{ℕ, zero, suc, ◌+◌, ◌*◌, ◌≤◌, ◌<◌, max, min}
+use Prim.Native.Nat.{ℕ, zero, suc, ◌+◌, ◌≤◌, ◌<◌, max, min}
 use mathlib.Core.Bool.{Bool, true, false, not, ◌&&◌, ◌||◌, false≢true}
 use mathlib.Core.List.{List, [], ◌∷◌, map, map-append}
 use mathlib.Core.Path.{◌≡◌, refl, ap, sym, subst, ◌∙◌}
@@ -160,7 +160,7 @@ module _ (file : File) (setting : Setting) (table codes : List ℕ) where
       → SortsBy (tighter_in file setting table codes) setting.inputs keys
   unfolding four_at smaller
   tried_sorts keys made = record {
-      same = sorts_so keys
+    same = sorts_so keys
         (λ net h d. (made.at net h).decided_is d)
         (λ net h u. ((made.at net h).undecided_is u).1)
         (λ a b h l u v. rw (((made.at a h).undecided_is u).0, ((made.at b l).undecided_is v).0) refl);
@@ -171,7 +171,7 @@ module _ (file : File) (setting : Setting) (table codes : List ℕ) where
       → count ≡ count_by (λ code. undecided (decode code)) (take setting.inputs codes) → count < 2 → KeysMade (UntriedKey codes) setting.inputs keys → SortsBy (tighter_in file setting table codes) setting.inputs keys
   unfolding four_at smaller
   untried_sorts keys enough counted few made = record {
-      same = sorts_so keys
+    same = sorts_so keys
         (λ net h d. (made.at net h).decided_is d)
         (λ net h u. let zero_first : get_or (four_at keys net) 0 0 ≡ 0 = ap (λ xs. get_or xs 0 0) ((made.at net h).undecided_is u) in omega arith)
         (λ a b h l u v.

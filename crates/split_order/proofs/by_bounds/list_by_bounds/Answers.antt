@@ -1,9 +1,7 @@
 -- `split_order::by_bounds::list_by_bounds` meets its contract.
 -- Assumes nothing.
-use Prim.Native.Nat.{ℕ}
-use lib.ListN.{length-replicate}
 use Rattle.block.proofs.Frames.{frame_sets}
-use Rattle.cases.proofs.Frames.{codes_long, frame_coded}
+use Rattle.cases.proofs.Frames.{frame_coded}
 use Rattle.split_order.proofs.ByBounds.{listed_by_bounds}
 use Rattle.split_order.proofs.by_bounds.list_by_bounds.Goals as goal
 

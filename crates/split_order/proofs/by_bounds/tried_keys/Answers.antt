@@ -1,13 +1,10 @@
 -- `split_order::by_bounds::tried_keys` meets its contract. The loop's invariant: the numbers of the nets below net are written.
 -- Assumes nothing.
-use Prim.Native.Nat.{ℕ}
-use mathlib.Core.Path.{◌∙◌, ◌≡◌, refl}
-use lib.ListN.{length-set, length-replicate}
-use Rattle.split_order.proofs.Trying.{triable}
+use mathlib.Core.Path.{◌∙◌}
+use lib.ListN.{length-set}
 use native.Mathlib.Omega.{arith}
 use Rattle.split_order.specs.Trying.{TriedKey}
-use Rattle.split_order.specs.declared.key.Four.{Four}
-use Rattle.split_order.proofs.Keys.{keys_none, keys_next}
+use Rattle.split_order.proofs.Keys.{keys_next}
 use Rattle.split_order.proofs.by_bounds.tried_keys.Goals as goal
 
 pub loop-net-preserved : goal.loop-net-preserved

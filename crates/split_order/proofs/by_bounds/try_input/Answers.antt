@@ -1,13 +1,10 @@
 -- `split_order::by_bounds::try_input` meets its contract. The loop's invariant: the children of the first e excitations are tried.
 -- Assumes nothing.
 use mathlib.Core.Bool.{not}
-use mathlib.Core.Path.{ap, sym, subst, ◌∙◌, refl}
-use Rattle.evaluation.proofs.Given.{evaluable_kept}
-use Rattle.split_order.specs.Sorting.{four_of}
-use Rattle.split_order.specs.Trying.{TriedKey, TriedBelow}
-use Rattle.split_order.specs.declared.key.Four.{Four}
+use mathlib.Core.Path.{ap, sym, subst, refl}
+use Rattle.split_order.specs.Trying.{TriedBelow}
 use native.Mathlib.Omega.{arith}
-use Rattle.split_order.proofs.Trying.{tried_none, tried_key, decided_key_lem}
+use Rattle.split_order.proofs.Trying.{tried_none, tried_key}
 use Rattle.split_order.proofs.by_bounds.try_input.Goals as goal
 
 pub loop-e-init : goal.loop-e-init

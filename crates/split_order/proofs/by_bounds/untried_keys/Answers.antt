@@ -1,11 +1,10 @@
 -- `split_order::by_bounds::untried_keys` meets its contract. The loop's invariant: the numbers of the nets below net are made.
 -- Assumes nothing.
-use mathlib.Core.Path.{◌≡◌, ◌∙◌}
+use mathlib.Core.Path.{◌∙◌}
 use native.Mathlib.Omega.{arith}
-use lib.ListN.{length-set, length-replicate}
+use lib.ListN.{length-set}
 use Rattle.split_order.specs.Trying.{UntriedKey}
-use Rattle.split_order.specs.declared.key.Four.{Four}
-use Rattle.split_order.proofs.Keys.{keys_none, keys_next}
+use Rattle.split_order.proofs.Keys.{keys_next}
 use Rattle.split_order.proofs.by_bounds.untried_keys.Goals as goal
 
 pub loop-net-preserved : goal.loop-net-preserved

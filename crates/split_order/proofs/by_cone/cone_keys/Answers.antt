@@ -4,11 +4,10 @@ use Prim.Native.Nat.{◌-◌}
 use mathlib.Core.List.{◌∷◌, []}
 use mathlib.Core.Path.{◌≡◌, ap, ◌∙◌}
 use native.Mathlib.Omega.{arith}
-use lib.ListN.{length-set, length-replicate}
+use lib.ListN.{length-set}
 use Rattle.split_order.specs.Sorting.{four_of}
-use Rattle.split_order.specs.declared.key.Four.{Four}
 use Rattle.split_order.proofs.ByCone.{ConeKey, cones_sort}
-use Rattle.split_order.proofs.Keys.{keys_none, keys_next}
+use Rattle.split_order.proofs.Keys.{keys_next}
 use Rattle.split_order.proofs.by_cone.cone_keys.Goals as goal
 
 pub loop-net-preserved : goal.loop-net-preserved

@@ -1,8 +1,5 @@
 -- `split_order::by_cone::list_by_cone` meets its contract.
 -- Assumes nothing.
-use Prim.Native.Nat.{ℕ}
-use native.Mathlib.Omega.{arith}
-use lib.ListN.{length-replicate}
 use Rattle.laws.proofs.Rewritten.{rewritten_first}
 use Rattle.split_order.proofs.ByCone.{cone_few, listed_by_cone}
 use Rattle.split_order.proofs.by_cone.list_by_cone.Goals as goal

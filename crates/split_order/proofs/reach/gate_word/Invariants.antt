@@ -1,6 +1,5 @@
 -- `split_order::reach::gate_word` meets its contract. The loop's invariant: the union of the words of the pins passed.
 -- Assumes nothing.
-use Prim.Native.Nat.{◌-◌, ◌≤◌}
 use mathlib.Core.Path.{◌≡◌}
 use lib.ListN.{get_or}
 use Rattle.block.specs.View.{pin_of}

@@ -1,6 +1,5 @@
 -- `split_order::reach::reached_gates` meets its contract. The loop's invariant: how many gates below the next net have the input's bit.
 -- Assumes nothing.
-use mathlib.Core.Path.{◌≡◌}
 use native.Mathlib.Omega.{arith}
 use Rattle.split_order.proofs.Cones.{reached_none, reached_more, reached_few}
 use Rattle.split_order.proofs.reach.reached_gates.Goals as goal

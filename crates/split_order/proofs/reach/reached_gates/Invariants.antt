@@ -1,6 +1,5 @@
 -- `split_order::reach::reached_gates` meets its contract. The loop's invariant: how many gates below the next net have the input's bit.
 -- Assumes nothing.
-use Prim.Native.Nat.{◌-◌, ◌≤◌}
 use mathlib.Core.Path.{◌≡◌}
 use Rattle.split_order.specs.Reach.{reached_gates}
 use Rattle.split_order.proofs.reach.reached_gates.Given as goal

@@ -1,8 +1,8 @@
 -- `split_order::reach::write_cones` meets its contract.
 -- Assumes nothing.
-use mathlib.Core.Path.{◌≡◌, refl, sym, ◌∙◌}
+use mathlib.Core.Path.{◌∙◌}
 use native.Mathlib.Omega.{arith}
-use Rattle.laws.proofs.Rewritten.{rewritten_none, rewritten_next}
+use Rattle.laws.proofs.Rewritten.{rewritten_next}
 use Rattle.split_order.proofs.Cones.{reached_all}
 use Rattle.split_order.proofs.reach.write_cones.Goals as goal
 

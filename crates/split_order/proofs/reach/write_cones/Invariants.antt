@@ -1,6 +1,5 @@
 -- `split_order::reach::write_cones` meets its contract.
 -- Assumes nothing.
-use Prim.Native.Nat.{◌-◌, ◌≤◌}
 use Rattle.laws.specs.Rewritten.{Rewritten}
 use Rattle.block.specs.Block.{cone_size}
 use Rattle.split_order.proofs.reach.write_cones.Given as goal

@@ -1,6 +1,6 @@
 -- `split_order::reach::write_own` meets its contract.
 -- Assumes nothing.
-use Prim.Native.Nat.{◌-◌, ◌^◌, ◌≤◌}
+use Prim.Native.Nat.{◌^◌}
 use Rattle.laws.specs.Rewritten.{Rewritten}
 use Rattle.split_order.proofs.reach.write_own.Given as goal
 

@@ -1,9 +1,7 @@
 -- `split_order::reach::write_words` meets its contract. The loop's invariant: the words of the nets below the next.
 -- Assumes nothing.
-use mathlib.Core.Path.{◌≡◌, sym, subst, ◌∙◌}
-use native.Mathlib.Omega.{arith}
+use mathlib.Core.Path.{sym, subst}
 use Rattle.block.specs.Accepted.{GateRecord}
-use Rattle.block.proofs.Accepted.{has_record}
 use Rattle.split_order.proofs.Cones.{reached_first, reached_next}
 use Rattle.split_order.proofs.reach.write_words.Goals as goal
 

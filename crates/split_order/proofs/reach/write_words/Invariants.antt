@@ -1,6 +1,5 @@
 -- `split_order::reach::write_words` meets its contract. The loop's invariant: the words of the nets below the next.
 -- Assumes nothing.
-use Prim.Native.Nat.{◌-◌, ◌≤◌}
 use Rattle.split_order.specs.Reach.{Reached}
 use Rattle.split_order.proofs.reach.write_words.Given as goal
 
