@@ -12,6 +12,7 @@ use bounds::{draw, make};
 use cases::CaseNumber;
 use evaluation::Setting;
 use operation::{Found, SearchAnswer};
+use run::Limits;
 use sheet::Word;
 
 mod arguments;
@@ -56,20 +57,19 @@ fn search_block(
     file: &[u8],
     setting: Setting,
     table: &[u16],
-    ratio: u64,
-    budget: u64,
+    limits: Limits,
     order: &[u8],
     sheet: &mut [Word],
     pattern: &mut [u8],
     work: &mut [u8],
     store: &mut [u8],
 ) -> Found
-    requires { Evaluable file.now setting sheet.old work.old × (length pattern.old ≡ 64) × NetsListed setting.inputs order.now × (ratio ≤ 10000) × (budget ≤ 10000) × (72 * (1 + 3 * budget) ≤ length store.old) }
-    ensures { BlockSearched (record { file = file.now; hops = setting.hops; table = table.now; ratio = ratio; budget = budget; order = order.now; sheet = sheet.old; pattern = pattern.old; work = work.old; store = store.old }) result sheet.new pattern.new store.new }
+    requires { Evaluable file.now setting sheet.old work.old × (length pattern.old ≡ 64) × NetsListed setting.inputs order.now × (limits.ratio ≤ 10000) × (limits.budget ≤ 10000) × (72 * (1 + 3 * limits.budget) ≤ length store.old) }
+    ensures { BlockSearched (record { file = file.now; hops = setting.hops; table = table.now; ratio = limits.ratio; budget = limits.budget; order = order.now; sheet = sheet.old; pattern = pattern.old; work = work.old; store = store.old }) result sheet.new pattern.new store.new }
 {
     let threshold = make_first(file, setting, table, sheet, pattern, work, store);
     let ended = run::run(
-        file, setting, table, order, ratio, budget, threshold, sheet, pattern, work, store,
+        file, setting, table, order, limits, threshold, sheet, pattern, work, store,
     );
     draw::draw_cases(file, setting, table, store, ended.cases, sheet, work);
     let quiet = sheet::quiet_tick(sheet, 512);
@@ -122,8 +122,9 @@ pub fn search(
                         inputs: inputs as usize,
                         hops: hops as usize,
                     };
+                    let limits = Limits { ratio, budget };
                     SearchAnswer::Found(search_block(
-                        file, setting, table, ratio, budget, order, sheet, pattern, work, store,
+                        file, setting, table, limits, order, sheet, pattern, work, store,
                     ))
                 }
             }

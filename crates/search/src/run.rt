@@ -23,21 +23,30 @@ pub struct RunEnd {
     pub cases: usize,
 }
 
-// The checks before a split, in order: how the run ends here, if it does.
-fn end_before_split(upper: u64, lower: u64, ratio: u64, splits: u64, budget: u64) -> Option<Outcome>
-    requires { (upper < drop_limit) × (lower < drop_limit) × (ratio ≤ 10000) }
-    ensures { EndsSo upper lower ratio splits budget result }
-{
-    if upper == lower {
-        return Some(Outcome::Exact);
+// What a run is content with, short of an exact ceiling: a ratio, and a budget of splits.
+#[derive(Clone, Copy)]
+pub struct Limits {
+    pub ratio: u64,
+    pub budget: u64,
+}
+
+impl Limits {
+    // The checks before a split, in order: how the run ends here, if it does.
+    fn end_before_split(self, upper: u64, lower: u64, splits: u64) -> Option<Outcome>
+        requires { (upper < drop_limit) × (lower < drop_limit) × (self.ratio ≤ 10000) }
+        ensures { EndsSo upper lower self.ratio splits self.budget result }
+    {
+        if upper == lower {
+            return Some(Outcome::Exact);
+        }
+        if 1000 * upper <= self.ratio * lower {
+            return Some(Outcome::Within);
+        }
+        if splits == self.budget {
+            return Some(Outcome::Spent);
+        }
+        None
     }
-    if 1000 * upper <= ratio * lower {
-        return Some(Outcome::Within);
-    }
-    if splits == budget {
-        return Some(Outcome::Spent);
-    }
-    None
 }
 
 // Runs the search from the first case on.
@@ -46,16 +55,15 @@ pub fn run(
     setting: Setting,
     table: &[u16],
     order: &[u8],
-    ratio: u64,
-    budget: u64,
+    limits: Limits,
     threshold: u64,
     sheet: &mut [Word],
     pattern: &mut [u8],
     work: &mut [u8],
     store: &mut [u8],
 ) -> RunEnd
-    requires { Evaluable file.now setting sheet.old work.old × Running setting.inputs 1 threshold store.old pattern.old × NetsListed setting.inputs order.now × (ratio ≤ 10000) × (budget ≤ 10000) × (72 * (1 + 3 * budget) ≤ length store.old) × ProbesCovered (simulated_drop file.now table.now) (state_in setting.inputs 1 threshold store.old pattern.old) }
-    ensures { Ran file.now setting table.now order.now ratio budget (state_in setting.inputs 1 threshold store.old pattern.old) store.old pattern.old result store.new pattern.new }
+    requires { Evaluable file.now setting sheet.old work.old × Running setting.inputs 1 threshold store.old pattern.old × NetsListed setting.inputs order.now × (limits.ratio ≤ 10000) × (limits.budget ≤ 10000) × (72 * (1 + 3 * limits.budget) ≤ length store.old) × ProbesCovered (simulated_drop file.now table.now) (state_in setting.inputs 1 threshold store.old pattern.old) }
+    ensures { Ran file.now setting table.now order.now limits.ratio limits.budget (state_in setting.inputs 1 threshold store.old pattern.old) store.old pattern.old result store.new pattern.new }
 {
     let mut cases: usize = 1;
     let mut best = threshold;
@@ -65,7 +73,7 @@ pub fn run(
         let k = store::argmax(store, cases);
         let upper = store::upper(store, k);
         let lower = best - 1;
-        if let Some(outcome) = end_before_split(upper, lower, ratio, splits, budget) {
+        if let Some(outcome) = limits.end_before_split(upper, lower, splits) {
             return RunEnd {
                 outcome,
                 upper,
