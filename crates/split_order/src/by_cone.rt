@@ -29,8 +29,7 @@ fn list_by_cone(file: &[u8], nets: usize, inputs: usize) -> [u8; 64]
     requires { AcceptedFile file.now nets inputs }
     ensures { result ≡ list_bytes (cone_order file.now) }
 {
-    let mut cones = [0u16; 64];
-    reach::write_cones(file, nets, inputs, &mut cones);
+    let cones = reach::cones(file, nets, inputs);
     sort::sorted(&cone_keys(&cones, inputs), inputs)
 }
 

@@ -6,12 +6,11 @@ use Rattle.split_order.proofs.by_cone.list_by_cone.Goals as goal
 
 pub cone_keys-requires : goal.cone_keys-requires
 cone_keys-requires c =
-    let w = c.write_cones.ensures in (
+    (
       c.requires.few_inputs,
-      (λ net h. rw (rewritten_first _ _ _ _ w net h) (cone_few _ _ _ net c.requires)),
+      (λ net h. rw (c.cones-cones.ensures net h) (cone_few _ _ _ net c.requires)),
     )
 
 pub returns : goal.returns
 returns c =
-    let cones = c.write_cones.new.cones in
-    listed_by_cone cones _ c.requires (rewritten_first _ _ _ _ c.write_cones.ensures) c.cone_keys.ensures c.sorted.ensures
+    listed_by_cone c.cones-cones.result _ c.requires c.cones-cones.ensures c.cone_keys.ensures c.sorted.ensures

@@ -7,13 +7,12 @@ use Rattle.split_order.proofs.reach.write_words.Goals as goal
 
 pub loop-net-init : goal.loop-net-init
 loop-net-init c =
-    let a = c.requires.0 in
-    reached_first _ _ _ a _ _ c.requires.1 c.write_own.ensures
+    reached_first _ _ _ c.requires _ _ c.told-words c.write_own.ensures
 
 pub loop-net-preserved : goal.loop-net-preserved
 loop-net-preserved c =
     let l = c.loop-net in
-    let a = c.requires.0 in
+    let a = c.requires in
     let taken = c.loop-net-test.true in
     let is = c.gate-gate.ensures.is in
     let g = subst (GateRecord l.net) (sym is) (a.gate l.net l.auto.net taken) in
