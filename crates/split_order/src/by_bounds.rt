@@ -64,7 +64,7 @@ fn try_child(
     file: &[u8],
     setting: Setting,
     table: &[u16],
-    frame: &[u8],
+    frame: &[u8; 64],
     input: Net,
     e: u8,
     cap: u64,
@@ -72,7 +72,7 @@ fn try_child(
     sheet: &mut [Word],
     work: &mut [u8],
 ) -> Four
-    requires { Evaluable file.now setting sheet.old work.old × (length frame.now ≡ 64) × SetCodes setting.inputs frame.now × (input.0 < setting.inputs) × (e < 4) × (cap ≡ upper_of file.now setting table.now frame.now) × TriedBelow file.now setting table.now frame.now input.0 e tried }
+    requires { Evaluable file.now setting sheet.old work.old × SetCodes setting.inputs frame.now × (input.0 < setting.inputs) × (e < 4) × (cap ≡ upper_of file.now setting table.now frame.now) × TriedBelow file.now setting table.now frame.now input.0 e tried }
     ensures { TriedBelow file.now setting table.now frame.now input.0 (e + 1) result }
 {
     let net = input.0;
@@ -90,13 +90,13 @@ fn try_input(
     file: &[u8],
     setting: Setting,
     table: &[u16],
-    frame: &[u8],
+    frame: &[u8; 64],
     input: Net,
     cap: u64,
     sheet: &mut [Word],
     work: &mut [u8],
 ) -> Four
-    requires { Evaluable file.now setting sheet.old work.old × (length frame.now ≡ 64) × SetCodes setting.inputs frame.now × (input.0 < setting.inputs) × (cap ≡ upper_of file.now setting table.now frame.now) }
+    requires { Evaluable file.now setting sheet.old work.old × SetCodes setting.inputs frame.now × (input.0 < setting.inputs) × (cap ≡ upper_of file.now setting table.now frame.now) }
     ensures { TriedKey file.now setting table.now frame.now input.0 (four_of result) }
 {
     let net = input.0;
