@@ -1,4 +1,6 @@
 // A case made: its probe simulated, its upper number found, and its record written.
+// Form kept: sheet and work stay two buffers, since `evaluation::evaluate` and `simulator::evaluate_singles`, whose clauses may not change,
+// take them so.
 ghost use Rattle.std.specs.Prelude.{◌≡◌, ◌<◌, length};
 ghost use Rattle.block.specs.Limits.{drop_limit};
 ghost use Rattle.cases.specs.Records.{HasCase, SetCodes};

@@ -53,6 +53,8 @@ fn make_first(
 }
 
 // Searches an accepted file, with arguments that passed.
+// Form kept: the C interface lends sheet, pattern, work buffer and store one by one, and `evaluation::evaluate`, whose clause may not
+// change, takes sheet and work so.
 fn search_block(
     file: &[u8],
     setting: Setting,

@@ -68,7 +68,7 @@ pub fn run(
     let mut cases: usize = 1;
     let mut best = threshold;
     let mut splits: u64 = 0;
-    // Form kept: the new form is no plainer: after a `for` over the splits stood an end of the run that is never reached.
+    // Form kept: the new form is no plainer: past a `for` over the splits would have to stand an end of the run that is never reached.
     loop {
         let k = store::argmax(store, cases);
         let upper = store::upper(store, k);

@@ -24,6 +24,7 @@ fn gate_word(gate: Gate, words: &[u64; 1024]) -> u64
     ensures { result ≡ gate_word gate words.now }
 {
     let mut word: u64 = 0;
+    // Form kept: `for pin in &gate.pins[..gate.used]` was tried and the proof didn't close.
     for p in 0..gate.used {
         let pin = gate.pins[p];
         word |= words[pin.0];
