@@ -1,9 +1,9 @@
--- Laws of a case made: its probe simulated, its upper number, and its record.
+-- Laws of a case made: its probe simulated, and its upper number.
 -- Assumes nothing.
-use Prim.Native.Nat.{ℕ, ◌+◌, ◌*◌, ◌≤◌, ◌<◌, min}
+use Prim.Native.Nat.{ℕ, ◌≤◌, ◌<◌}
 use mathlib.Core.Bool.{Bool, true, false}
 use mathlib.Core.List.{List}
-use mathlib.Core.Path.{◌≡◌, refl, ap, sym, subst, ◌∙◌}
+use mathlib.Core.Path.{◌≡◌, ap, sym, subst, ◌∙◌}
 use native.Mathlib.Omega.{arith}
 use lib.ListN.{length, get_or}
 use Rattle.laws.specs.Rewritten.{Rewritten}
@@ -16,16 +16,10 @@ use Rattle.operation.specs.declared.Currents.{Currents}
 use Rattle.evaluation.specs.Evaluation.{InputCodes, sheet_for, Evaluated}
 use Rattle.evaluation.specs.declared.Setting.{Setting}
 use Rattle.simulator.specs.Simulate.{SinglesEvaluated}
-use Rattle.cases.specs.Case.{decided, first_allowed, probe}
-use Rattle.cases.specs.Records.{SetCodes, record_byte}
-use Rattle.cases.specs.Store.{pattern_byte}
+use Rattle.cases.specs.Case.{decided, first_allowed}
 use Rattle.cases.proofs.Cases.{evaluation_decided, evaluation_undecided}
 use Rattle.cases.proofs.Singles.{probe_sets}
-use Rattle.bounds.specs.Bounds.{simulated_drop, envelope_drop, own_upper, probe_drop, upper_of, CaseMade}
-
--- The codes of a case's sets, as an evaluation takes them.
-pub case_codes : {inputs : ℕ} {codes : List ℕ} → inputs ≤ 64 → length codes ≡ 64 → SetCodes inputs codes → InputCodes inputs codes
-case_codes few long coded = record { enough = omega arith; low = λ net h. omega (arith, coded.high net h) }
+use Rattle.bounds.specs.Bounds.{simulated_drop, envelope_drop, own_upper, probe_drop, upper_of}
 
 -- The drop of a probe, simulated by the codes of its single sets.
 
@@ -61,39 +55,3 @@ module _ (file : File) (setting : Setting) (table codes : List ℕ) {r : Bool} (
         ∙ sym (evaluation_undecided (simulated_drop file table) (envelope_drop file setting.hops table) (sets_in setting.inputs codes) (sym test ∙ t)),
     e.low,
   )
-
--- A case made, from its probe's drop, its upper number and its record: the threshold is not reached, or it is.
-
-module _ (file : File) (setting : Setting) (table codes : List ℕ) (cap threshold at : ℕ) (store store' : List ℕ) {drop own upper : ℕ}
-    (p : (drop ≡ probe_drop file setting table codes) × (drop < drop_limit))
-    (o : (own ≡ upper_of file setting table codes) × (own < drop_limit))
-    (u : upper ≡ min cap own)
-    (w : Rewritten (record_byte codes upper) (72 * at) 72 store store') where
-  case_stored : Rewritten (record_byte codes (min cap (upper_of file setting table codes))) (72 * at) 72 store store'
-  case_stored = subst (λ n. Rewritten (record_byte codes n) (72 * at) 72 store store') (u ∙ ap (min cap) o.0) w
-
-  upper_below : upper_of file setting table codes < drop_limit
-  upper_below = subst (λ n. n < drop_limit) o.0 o.1
-
-  drop_below : probe_drop file setting table codes < drop_limit
-  drop_below = subst (λ n. n < drop_limit) p.0 p.1
-
-  pub made_below : {pattern : List ℕ} → drop < threshold → CaseMade file setting table codes cap threshold at store pattern threshold store' pattern
-  made_below h = record {
-    stored = case_stored;
-    upper_low = upper_below;
-    drop_low = drop_below;
-    kept = λ m. (refl, refl);
-    reached = λ m. absurd (omega (arith, p.0));
-  }
-
-  pub made_best : {pattern pattern' : List ℕ} → threshold ≤ drop
-      → Rewritten (pattern_byte (probe (sets_in setting.inputs codes))) 0 setting.inputs pattern pattern'
-      → CaseMade file setting table codes cap threshold at store pattern (drop + 1) store' pattern'
-  made_best h written = record {
-    stored = case_stored;
-    upper_low = upper_below;
-    drop_low = drop_below;
-    kept = λ m. absurd (omega (arith, p.0));
-    reached = λ m. (ap (λ n. n + 1) p.0, written);
-  }

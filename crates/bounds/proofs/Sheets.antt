@@ -1,16 +1,13 @@
 -- Laws of the sheet of a search: a case drawn, a sheet raised to another, and the greatest over the cases drawn so far.
 -- Assumes nothing.
-use Prim.Native.Nat.{ℕ, ◌+◌, ◌*◌, ◌/◌, ◌%◌, ◌≤◌, ◌<◌, max}
+use Prim.Native.Nat.{ℕ, ◌+◌, ◌*◌, ◌/◌, ◌%◌, ◌≤◌, max}
 use mathlib.Core.List.{List}
-use mathlib.Core.Logic.{inr}
 use mathlib.Core.Path.{◌≡◌, ap, sym, ◌∙◌}
-use native.Mathlib.Nat.{zero-add}
-use native.Mathlib.Omega.{arith}
-use lib.ListN.{length, get_or, set}
+use lib.ListN.{get_or}
 use Rattle.laws.specs.Below.{max_below}
 use Rattle.laws.specs.Rewritten.{Rewritten}
 use Rattle.laws.proofs.Below.{max_next, max_same}
-use Rattle.laws.proofs.Rewritten.{rewritten_next, rewritten_first}
+use Rattle.laws.proofs.Rewritten.{rewritten_first}
 use Rattle.block.specs.Record.{File}
 use Rattle.sheet.specs.Sheet.{Sheet, sheet_words}
 use Rattle.sheet.specs.Words.{Cleared}
@@ -39,12 +36,6 @@ case_drawn file setting few store k {given} {codes} copied evaluated =
 
 abbrev pub raised : List ℕ → List ℕ → ℕ → ℕ
 raised sheet other i = max (get_or sheet i 0) (get_or other i 0)
-
-pub raised_next : (given other now : List ℕ) (i : ℕ) {v : ℕ} → i < length given → v ≡ raised now other i
-    → Rewritten (raised given other) 0 i given now → Rewritten (raised given other) 0 (i + 1) given (set now i v)
-raised_next given other now i inside e so_far =
-    let kept : get_or now i 0 ≡ get_or given i 0 = so_far.rest i (inr (omega arith)) in
-    rewritten_next (raised given other) 0 i i _ given now (sym (zero-add i)) inside (e ∙ ap (λ x. max x (get_or other i 0)) kept) so_far
 
 -- The greatest, at each place, over the first n cases of a store.
 

@@ -43,6 +43,11 @@ pub record CaseEvaluated (file : File) (setting : Setting) (table codes : List �
   pub low : upper < drop_limit
   pub written : sheet ≡ sheet_words (evaluation_of (simulated_sheet file) (envelope_sheet setting.hops file) (sets_in setting.inputs codes))
 
+-- A case bounded: its record.
+pub record CaseBounded (file : File) (setting : Setting) (table codes : List ℕ) (cap at : ℕ) (store store' : List ℕ) : Type 0 where
+  pub stored : Rewritten (record_byte codes (min cap (upper_of file setting table codes))) (72 * at) 72 store store'
+  pub upper_low : upper_of file setting table codes < drop_limit
+
 -- A case made: its record, and the best probe. A probe is the best so far where its drop reaches the threshold, which is 0 before the
 -- first case and L + 1 afterwards.
 pub record CaseMade (file : File) (setting : Setting) (table codes : List ℕ) (cap threshold at : ℕ) (store pattern : List ℕ)

@@ -17,10 +17,8 @@ fn raise(sheet: &mut [Word], other: &[Word])
     requires { (length sheet.old ≡ 8192) × (length other.now ≡ 8192) }
     ensures { Rewritten (λ i. max (get_or sheet.old i 0) (get_or other.now i 0)) 0 8192 sheet.old sheet.new }
 {
-    let mut i: usize = 0;
-    while i < 8192 {
-        sheet[i] = numbers::max_u64(sheet[i], other[i]);
-        i += 1;
+    for i in 0..8192 {
+        sheet[i] = sheet[i].max(other[i]);
     }
 }
 
@@ -57,10 +55,8 @@ pub fn draw_cases(
 {
     let mut one: [Word; 8192] = [0; 8192];
     sheet::clear(sheet);
-    let mut k: usize = 0;
-    while k < n {
+    for k in 0..n {
         draw_case(file, setting, table, store, CaseNumber(k), &mut one, work);
         raise(sheet, &one);
-        k += 1;
     }
 }

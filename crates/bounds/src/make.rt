@@ -1,10 +1,13 @@
 // A case made: its probe simulated, its upper number found, and its record written.
-ghost use Rattle.std.specs.Prelude.{true, ◌≡◌, ◌≤◌, ◌<◌, length};
+// Form kept: sheet and work stay two buffers, since `evaluation::evaluate` and `simulator::evaluate_singles`, whose clauses may not change,
+// take them so.
+ghost use Rattle.std.specs.Prelude.{◌≡◌, ◌<◌, length};
 ghost use Rattle.block.specs.Limits.{drop_limit};
 ghost use Rattle.cases.specs.Records.{HasCase, SetCodes};
 ghost use Rattle.evaluation.specs.Evaluation.{Evaluable};
-ghost use Rattle.bounds.specs.Bounds.{probe_drop, upper_of, CaseMade};
+ghost use Rattle.bounds.specs.Bounds.{probe_drop, upper_of, CaseBounded, CaseMade};
 
+use super::evaluate;
 use cases::{CaseNumber, sets, store};
 use evaluation::Setting;
 use sheet::Word;
@@ -48,8 +51,28 @@ fn own_upper(
     currents.drop
 }
 
+// Bounds a case whose probe is known to be no better than the best: writes its record. The probe is simulated only where the case is
+// decided, for its upper number.
+pub fn bound_case(
+    file: &[u8],
+    setting: Setting,
+    table: &[u16],
+    codes: &[u8],
+    cap: u64,
+    at: CaseNumber,
+    sheet: &mut [Word],
+    work: &mut [u8],
+    store: &mut [u8],
+)
+    requires { Evaluable file.now setting sheet.old work.old × (length codes.now ≡ 64) × SetCodes setting.inputs codes.now × HasCase store.old at.0 }
+    ensures { CaseBounded file.now setting table.now codes.now cap at.0 store.old store.new }
+{
+    let upper = evaluate::evaluate_case(file, setting, table, codes, sheet, work);
+    store::write_case(store, at, codes, cap.min(upper));
+}
+
 // Makes a case: writes its record and, where its probe's drop reaches the threshold, its probe. Returns the drop that the next probe has
-// to reach. A probe whose drop is known to be below the threshold is simulated only where the case is decided, for its upper number.
+// to reach.
 pub fn make_case(
     file: &[u8],
     setting: Setting,
@@ -57,24 +80,18 @@ pub fn make_case(
     codes: &[u8],
     cap: u64,
     threshold: u64,
-    known: bool,
     at: CaseNumber,
     sheet: &mut [Word],
     pattern: &mut [u8],
     work: &mut [u8],
     store: &mut [u8],
 ) -> u64
-    requires { Evaluable file.now setting sheet.old work.old × (length codes.now ≡ 64) × SetCodes setting.inputs codes.now × (length pattern.old ≡ 64) × HasCase store.old at.0 × (threshold ≤ drop_limit) × (known ≡ true → probe_drop file.now setting table.now codes.now < threshold) }
+    requires { Evaluable file.now setting sheet.old work.old × (length codes.now ≡ 64) × SetCodes setting.inputs codes.now × (length pattern.old ≡ 64) × HasCase store.old at.0 }
     ensures { CaseMade file.now setting table.now codes.now cap threshold at.0 store.old pattern.old result store.new pattern.new }
 {
-    if known && !sets::is_decided(codes, setting.inputs) {
-        let currents = evaluation::evaluate(file, setting, codes, table, sheet, work);
-        store::write_case(store, at, codes, numbers::min_u64(cap, currents.drop));
-        return threshold;
-    }
     let drop = probe_drop(file, setting, table, codes, sheet, work);
     let own = own_upper(file, setting, table, codes, drop, sheet, work);
-    store::write_case(store, at, codes, numbers::min_u64(cap, own));
+    store::write_case(store, at, codes, cap.min(own));
     if drop < threshold {
         return threshold;
     }

@@ -4,21 +4,23 @@ use Prim.Native.Nat.{ℕ, ◌+◌, ◌≤◌, ◌<◌, max}
 use mathlib.Core.Bool.{Bool, true, false, not, false≢true}
 use mathlib.Core.List.{List}
 use mathlib.Core.Path.{◌≡◌, refl, ap, sym, subst, ◌∙◌}
+use native.Mathlib.Omega.{arith}
 use lib.Dec.{eqb}
 use lib.ListN.{length, get_or}
 use borrow.Author.Tests.{eqb-true}
-use Rattle.laws.proofs.Tests.{refuted, confirmed}
+use Rattle.laws.proofs.Tests.{confirmed}
 use Rattle.excitation.specs.Excitation.{excitation_of, byte_of}
 use Rattle.excitation.specs.UncertaintySet.{member, decode, sets_in}
 use Rattle.excitation.specs.declared.Excitation.{Excitation}
+use Rattle.block.specs.Limits.{drop_limit}
 use Rattle.block.specs.Record.{File}
 use Rattle.cases.specs.Case.{first_allowed, probe}
 use Rattle.cases.specs.Records.{child_codes}
 use Rattle.cases.proofs.Children.{child_probe}
 use Rattle.evaluation.specs.declared.Setting.{Setting}
-use Rattle.bounds.specs.Bounds.{simulated_drop, probe_drop, CaseMade}
+use Rattle.bounds.specs.Bounds.{simulated_drop, probe_drop, CaseBounded, CaseMade}
 use Rattle.search.specs.Steps.{ChildMade}
-use Rattle.search.specs.declared.Step.{Step}
+use Rattle.search.specs.declared.split.Step.{Step}
 
 -- The probe's drop of the child that has its parent's probe is below the threshold where the parent's is.
 pub child_below : (file : File) (setting : Setting) (table parent : List ℕ) (input e : ℕ) {codes : List ℕ} {first threshold : ℕ} → setting.inputs ≤ 64
@@ -28,33 +30,34 @@ child_below file setting table parent input e {codes} {first} {threshold} few lo
     let same = ap (λ bytes. probe (sets_in setting.inputs bytes)) coded ∙ child_probe setting.inputs few parent long input inside e (eqb-true e first test ∙ is) in
     subst (λ pattern. simulated_drop file table pattern < threshold) (sym same) below
 
--- A child skipped, and a child made.
+-- A case bounded whose probe's drop is below the threshold is made: no probe is better.
+pub bounded_made : {file : File} {setting : Setting} {table codes : List ℕ} {cap threshold at : ℕ} {store store' pattern : List ℕ}
+    → CaseBounded file setting table codes cap at store store' → probe_drop file setting table codes < threshold → threshold ≤ drop_limit
+    → CaseMade file setting table codes cap threshold at store pattern threshold store' pattern
+bounded_made bounded below low = record {
+  stored = bounded.stored;
+  upper_low = bounded.upper_low;
+  drop_low = omega arith;
+  kept = λ m. (refl, refl);
+  reached = λ m. absurd (omega arith);
+}
+
+-- A child made.
 
 allowed_is : (parent : List ℕ) (input e : ℕ) {x : Excitation} {allowed : Bool} → x ≡ excitation_of e
     → allowed ≡ member x (decode (get_or parent input 0)) → allowed ≡ member (excitation_of e) (decode (get_or parent input 0))
 allowed_is parent input e is tested = tested ∙ ap (λ x. member x (decode (get_or parent input 0))) is
 
-pub child_skipped : {file : File} {setting : Setting} {table parent : List ℕ} {input e cap : ℕ} {step : Step} {store pattern : List ℕ}
-    {x : Excitation} {allowed : Bool} → x ≡ excitation_of e → allowed ≡ member x (decode (get_or parent input 0)) → not allowed ≡ true
-    → ChildMade file setting table parent input e cap step store pattern step store pattern
-child_skipped {parent} {input} {e} is tested h =
-    let no = refuted (allowed_is parent input e is tested) h in
-    record {
-      skipped = λ t. (refl, refl, refl);
-      made = λ t. absurd (false≢true (sym no ∙ t));
-      counted = λ t. absurd (false≢true (sym no ∙ t));
-    }
-
 pub child_made : {file : File} {setting : Setting} {table parent : List ℕ} {input e cap : ℕ} {step : Step} {store pattern : List ℕ}
-    {x : Excitation} {allowed : Bool} {codes : List ℕ} {cases threshold : ℕ} {store' pattern' : List ℕ}
+    {x : Excitation} {allowed : Bool} {codes : List ℕ} {threshold : ℕ} {after : Step} {store' pattern' : List ℕ}
     → x ≡ excitation_of e → allowed ≡ member x (decode (get_or parent input 0)) → not allowed ≡ false
     → codes ≡ child_codes parent input e → CaseMade file setting table codes cap step.threshold step.next.0 store pattern threshold store' pattern'
-    → cases ≡ max (step.next.0 + 1) step.cases
-    → ChildMade file setting table parent input e cap step store pattern (record { cases = cases; next = record { 0 = cases }; threshold = threshold }) store' pattern'
-child_made {parent} {input} {e} is tested h coded made count =
+    → after ≡ record { cases = max (step.next.0 + 1) step.cases; next = record { 0 = max (step.next.0 + 1) step.cases }; threshold = threshold }
+    → ChildMade file setting table parent input e cap step store pattern after store' pattern'
+child_made {parent} {input} {e} is tested h coded made moved =
     let yes = confirmed (allowed_is parent input e is tested) h in
     record {
       skipped = λ t. absurd (false≢true (sym t ∙ yes));
-      made = λ t. rw (← coded) made;
-      counted = λ t. (count, refl);
+      made = λ t. rw (← coded, moved) made;
+      counted = λ t. rw moved (refl, refl);
     }

@@ -3,25 +3,25 @@
 use Prim.Native.Nat.{ℕ, ◌+◌, ◌*◌, ◌-◌, ◌≤◌, ◌<◌}
 use mathlib.Core.List.{List}
 use mathlib.Core.Path.{◌≡◌, refl, ap, sym, subst, ◌∙◌}
-use native.Mathlib.Nat.{mul-le-mul_right}
 use native.Mathlib.Omega.{arith}
 use lib.ListN.{length}
 use Rattle.laws.specs.Below.{argmax}
 use Rattle.block.specs.Limits.{drop_limit}
 use Rattle.block.specs.Record.{File}
+use Rattle.std.specs.declared.option.Option.{Option}
+use Rattle.std.specs.declared.option.Option.TheVariants.{Some}
 use Rattle.operation.specs.declared.Outcome.{Outcome}
 use Rattle.operation.specs.declared.Outcome.TheVariants.{Exact, Within, Spent}
 use Rattle.evaluation.specs.declared.Setting.{Setting}
 use Rattle.cases.specs.Choice.{first_undecided}
 use Rattle.cases.specs.Probes.{ProbesCovered}
 use Rattle.cases.specs.Records.{upper_in}
-use Rattle.cases.specs.Search.{State, search_from}
+use Rattle.cases.specs.Search.{search_from}
 use Rattle.cases.proofs.Records.{next_split_lem, greatest_upper_lem}
 use Rattle.cases.proofs.Probes.{split_covered}
 use Rattle.cases.proofs.Outcomes.{stop_exact, stop_within, stop_spent, goes_on}
 use Rattle.bounds.specs.Bounds.{simulated_drop, envelope_drop}
-use Rattle.search.specs.declared.run.RunEnd.{RunEnd}
-use Rattle.search.specs.Steps.{Running, PastKept, CaseToSplit, CaseSplit, Ran, best_in, state_in}
+use Rattle.search.specs.Steps.{Running, PastKept, CaseToSplit, CaseSplit, EndsSo, Ran, best_in, state_in}
 
 -- What is kept past some cases is kept past more, and through two steps where it is in each.
 pub past_kept : {inputs n m : ℕ} {store pattern store' pattern' store'' pattern'' : List ℕ} → n ≤ m
@@ -81,10 +81,6 @@ module _ {inputs n threshold : ℕ} {store pattern : List ℕ} (running : Runnin
     greatest = is ∙ ap (upper_in store) first ∙ sym (greatest_upper_lem inputs store n running.some);
   }
 
--- A ratio times a lower number is far below what a word holds.
-pub ratio_low : (ratio lower : ℕ) → ratio ≤ 10000 → lower < drop_limit → ratio * lower ≤ 10000 * drop_limit
-ratio_low ratio lower r l = let m : ratio * lower ≤ 10000 * lower = mul-le-mul_right lower r in omega arith
-
 -- A turn of the loop, by the checks before the split.
 
 module _ {file : File} {setting : Setting} {table order : List ℕ} {ratio budget threshold : ℕ} {store pattern : List ℕ} {n best splits : ℕ}
@@ -113,23 +109,28 @@ module _ {file : File} {setting : Setting} {table order : List ℕ} {ratio budge
         past = reached.past;
       }
 
-  pub ends_exact : upper ≡ best - 1 → Ends Exact
+  ends_exact : upper ≡ best - 1 → Ends Exact
   unfolding state_in best_in
   ends_exact e = ends Exact (stop_exact _ _ _ ratio (state_in setting.inputs n best store' pattern') (budget - splits) splits (sym next.greatest ∙ e))
 
-  pub ends_within : (upper ≡ best - 1 → ⊥) → 1000 * upper ≤ ratio * (best - 1) → Ends Within
+  ends_within : (upper ≡ best - 1 → ⊥) → 1000 * upper ≤ ratio * (best - 1) → Ends Within
   unfolding state_in best_in
   ends_within d l =
       ends Within
       (stop_within _ _ _ ratio (state_in setting.inputs n best store' pattern') (budget - splits) splits (λ e. d (next.greatest ∙ e))
       (rw (← next.greatest) l))
 
-  pub ends_spent : (upper ≡ best - 1 → ⊥) → ratio * (best - 1) < 1000 * upper → splits ≡ budget → Ends Spent
+  ends_spent : (upper ≡ best - 1 → ⊥) → ratio * (best - 1) < 1000 * upper → splits ≡ budget → Ends Spent
   unfolding state_in best_in
   ends_spent d l spent =
       ends Spent
       (stop_spent _ _ _ ratio (state_in setting.inputs n best store' pattern') (budget - splits) splits (omega arith) (λ e. d (next.greatest ∙ e))
       (rw (← next.greatest) l))
+
+  pub ends_so : {told : Option Outcome} → EndsSo upper (best - 1) ratio splits budget told → (outcome : Outcome) → told ≡ Some outcome → Ends outcome
+  ends_so so Exact e = ends_exact (rw e at so)
+  ends_so so Within e = let by = rw e at so in ends_within by.0 by.1
+  ends_so so Spent e = let by = rw e at so in ends_spent by.0 by.1 by.2
 
   pub reached_next : {n'' best'' : ℕ} {store'' pattern'' : List ℕ} → (upper ≡ best - 1 → ⊥) → ratio * (best - 1) < 1000 * upper → (splits ≡ budget → ⊥)
       → CaseSplit file setting table order n best store' pattern' n'' best'' store'' pattern''
@@ -149,10 +150,3 @@ module _ {file : File} {setting : Setting} {table order : List ℕ} {ratio budge
         afforded = omega arith;
         few = omega (arith, case_split.few, reached.few);
       }
-
--- The same end by another name.
-pub ran_as : {file : File} {setting : Setting} {table order : List ℕ} {ratio budget : ℕ} {start : State} {store pattern store' pattern' : List ℕ} {ended same : RunEnd}
-    → ended ≡ same → Ran file setting table order ratio budget start store pattern same store' pattern'
-    → Ran file setting table order ratio budget start store pattern ended store' pattern'
-ran_as {file} {setting} {table} {order} {ratio} {budget} {start} {store} {pattern} {store'} {pattern'} e ran =
-    subst (λ ended. Ran file setting table order ratio budget start store pattern ended store' pattern') (sym e) ran

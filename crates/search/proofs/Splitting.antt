@@ -25,7 +25,7 @@ use Rattle.cases.proofs.Right.{best_grown}
 use Rattle.evaluation.specs.declared.Setting.{Setting}
 use Rattle.bounds.specs.Bounds.{simulated_drop, envelope_drop, probe_drop, CaseMade, own_upper}
 use Rattle.search.specs.Steps.{ChildMade, Running, CaseToSplit, CaseSplit, best_in, state_in}
-use Rattle.search.specs.declared.Step.{Step}
+use Rattle.search.specs.declared.split.Step.{Step}
 use Rattle.cases.proofs.Children.{child_coded, child_sets, children_more, children_same}
 use Rattle.search.proofs.Stored.{CasesStored, BestStored, best_more, best_next}
 use Rattle.search.proofs.Places.{Places, places_more, places_few, places_next, places_skip, places_add, stored_next}
@@ -90,11 +90,10 @@ module _ {file : File} {setting : Setting} {table parent : List ℕ} {input k ca
   case = sets_in setting.inputs parent
 
   -- There is room for a child at the next place.
-  pub child_room : HasCase store' next × (count ≤ 30001)
+  pub child_room : HasCase store' next
   child_room =
       let below = places_next k n e count next inside (children_below e input case) turn now.places in
-      let few = places_few k n e count next inside (children_below e input case) (omega arith) now.places in
-      (record { whole = omega (arith, now.stored.long); numbered = omega arith }, omega arith)
+      record { whole = omega (arith, now.stored.long); numbered = omega arith }
 
   module _ (few : setting.inputs ≤ 64) (long : length parent ≡ 64) (coded : SetCodes setting.inputs parent) (chosen : input < setting.inputs) where
     tested : {b : Bool} → member (excitation_of e) (decode (get_or parent input 0)) ≡ b → member (excitation_of e) (get_or case input empty) ≡ b

@@ -14,8 +14,12 @@ use Rattle.cases.specs.Store.{store_with, pattern_with}
 use Rattle.bounds.specs.Bounds.{simulated_drop, envelope_drop, CaseMade}
 use Rattle.evaluation.specs.declared.Setting.{Setting}
 use Rattle.operation.specs.declared.Found.{Found}
+use Rattle.operation.specs.declared.Outcome.{Outcome}
+use Rattle.operation.specs.declared.Outcome.TheVariants.{Exact, Within, Spent}
+use Rattle.std.specs.declared.option.Option.{Option}
+use Rattle.std.specs.declared.option.Option.TheVariants.{None, Some}
 use Rattle.search.specs.Search.{SearchArguments, search_of, final_sheet, found_by}
-use Rattle.search.specs.declared.Step.{Step}
+use Rattle.search.specs.declared.split.Step.{Step}
 use Rattle.search.specs.declared.run.RunEnd.{RunEnd}
 
 -- The state of a search, as its buffers have it.
@@ -72,6 +76,13 @@ pub record CaseSplit (file : File) (setting : Setting) (table order : List ℕ) 
   pub more : n ≤ n'
   pub few : n' ≤ n + 3
   pub past : PastKept setting.inputs n' store pattern store' pattern'
+
+-- How a run ends before a split, by the checks in order: U = L, else 1000 × U ≤ ratio × L, else the budget is used up, else not.
+abbrev pub EndsSo : ℕ → ℕ → ℕ → ℕ → ℕ → Option Outcome → Type 0
+EndsSo upper lower ratio splits budget (Some Exact) = upper ≡ lower
+EndsSo upper lower ratio splits budget (Some Within) = (upper ≡ lower → ⊥) × (1000 * upper ≤ ratio * lower)
+EndsSo upper lower ratio splits budget (Some Spent) = (upper ≡ lower → ⊥) × (ratio * lower < 1000 * upper) × (splits ≡ budget)
+EndsSo upper lower ratio splits budget None = (upper ≡ lower → ⊥) × (ratio * lower < 1000 * upper) × (splits ≡ budget → ⊥)
 
 -- A run of the search from a state on, to its end.
 pub record Ran (file : File) (setting : Setting) (table order : List ℕ) (ratio budget : ℕ) (start : State) (store pattern : List ℕ)

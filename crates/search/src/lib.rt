@@ -12,22 +12,15 @@ use bounds::{draw, make};
 use cases::CaseNumber;
 use evaluation::Setting;
 use operation::Found;
+use run::Limits;
 use sheet::Word;
 
 mod arguments;
 mod run;
 mod split;
 
-// Where a split stands: how many cases there are, the place of the next child, and the drop that makes a probe the best.
-#[derive(Clone, Copy)]
-struct Step {
-    cases: usize,
-    next: CaseNumber,
-    threshold: u64,
-}
-
 // Above every upper number: the cap of the first case, which has no parent.
-const NO_CAP: u64 = 18446744073709551615;
+const NO_CAP: u64 = u64::MAX;
 
 // Makes the first case, the whole frame. Returns the drop that the next probe has to reach.
 fn make_first(
@@ -51,7 +44,6 @@ fn make_first(
         &codes,
         NO_CAP,
         0,
-        false,
         CaseNumber(0),
         sheet,
         pattern,
@@ -61,24 +53,25 @@ fn make_first(
 }
 
 // Searches an accepted file, with arguments that passed.
+// Form kept: the C interface lends sheet, pattern, work buffer and store one by one, and `evaluation::evaluate`, whose clause may not
+// change, takes sheet and work so.
 fn search_block(
     file: &[u8],
     setting: Setting,
     table: &[u16],
-    ratio: u64,
-    budget: u64,
+    limits: Limits,
     order: &[u8],
     sheet: &mut [Word],
     pattern: &mut [u8],
     work: &mut [u8],
     store: &mut [u8],
 ) -> Found
-    requires { Evaluable file.now setting sheet.old work.old × (length pattern.old ≡ 64) × NetsListed setting.inputs order.now × (ratio ≤ 10000) × (budget ≤ 10000) × (72 * (1 + 3 * budget) ≤ length store.old) }
-    ensures { BlockSearched (record { file = file.now; hops = setting.hops; table = table.now; ratio = ratio; budget = budget; order = order.now; sheet = sheet.old; pattern = pattern.old; work = work.old; store = store.old }) result sheet.new pattern.new store.new }
+    requires { Evaluable file.now setting sheet.old work.old × (length pattern.old ≡ 64) × NetsListed setting.inputs order.now × (limits.ratio ≤ 10000) × (limits.budget ≤ 10000) × (72 * (1 + 3 * limits.budget) ≤ length store.old) }
+    ensures { BlockSearched (record { file = file.now; hops = setting.hops; table = table.now; ratio = limits.ratio; budget = limits.budget; order = order.now; sheet = sheet.old; pattern = pattern.old; work = work.old; store = store.old }) result sheet.new pattern.new store.new }
 {
     let threshold = make_first(file, setting, table, sheet, pattern, work, store);
     let ended = run::run(
-        file, setting, table, order, ratio, budget, threshold, sheet, pattern, work, store,
+        file, setting, table, order, limits, threshold, sheet, pattern, work, store,
     );
     draw::draw_cases(file, setting, table, store, ended.cases, sheet, work);
     let quiet = sheet::quiet_tick(sheet, 512);
@@ -127,7 +120,8 @@ pub fn search(
         inputs,
         hops: hops as usize,
     };
+    let limits = Limits { ratio, budget };
     Ok(search_block(
-        file, setting, table, ratio, budget, order, sheet, pattern, work, store,
+        file, setting, table, limits, order, sheet, pattern, work, store,
     ))
 }

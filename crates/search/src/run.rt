@@ -1,10 +1,11 @@
 // The search's loop: the checks before each split, and the split.
-ghost use Rattle.std.specs.Prelude.{◌≡◌, ◌+◌, ◌*◌, ◌≤◌, length};
+ghost use Rattle.std.specs.Prelude.{◌+◌, ◌*◌, ◌≤◌, ◌<◌, length};
+ghost use Rattle.block.specs.Limits.{drop_limit};
 ghost use Rattle.operation.specs.SplitOrder.{NetsListed};
 ghost use Rattle.cases.specs.Probes.{ProbesCovered};
 ghost use Rattle.evaluation.specs.Evaluation.{Evaluable};
 ghost use Rattle.bounds.specs.Bounds.{simulated_drop};
-ghost use Rattle.search.specs.Steps.{Running, state_in, Ran};
+ghost use Rattle.search.specs.Steps.{Running, state_in, EndsSo, Ran};
 
 use super::split;
 use cases::store;
@@ -22,16 +23,29 @@ pub struct RunEnd {
     pub cases: usize,
 }
 
-// A run that ended so, which the loop says in three places.
-fn ended(outcome: Outcome, upper: u64, lower: u64, splits: u64, cases: usize) -> RunEnd
-    ensures { result ≡ record { outcome = outcome; upper = upper; lower = lower; splits = splits; cases = cases } }
-{
-    RunEnd {
-        outcome,
-        upper,
-        lower,
-        splits,
-        cases,
+// What a run is content with, short of an exact ceiling: a ratio, and a budget of splits.
+#[derive(Clone, Copy)]
+pub struct Limits {
+    pub ratio: u64,
+    pub budget: u64,
+}
+
+impl Limits {
+    // The checks before a split, in order: how the run ends here, if it does.
+    fn end_before_split(self, upper: u64, lower: u64, splits: u64) -> Option<Outcome>
+        requires { (upper < drop_limit) × (lower < drop_limit) × (self.ratio ≤ 10000) }
+        ensures { EndsSo upper lower self.ratio splits self.budget result }
+    {
+        if upper == lower {
+            return Some(Outcome::Exact);
+        }
+        if 1000 * upper <= self.ratio * lower {
+            return Some(Outcome::Within);
+        }
+        if splits == self.budget {
+            return Some(Outcome::Spent);
+        }
+        None
     }
 }
 
@@ -41,32 +55,32 @@ pub fn run(
     setting: Setting,
     table: &[u16],
     order: &[u8],
-    ratio: u64,
-    budget: u64,
+    limits: Limits,
     threshold: u64,
     sheet: &mut [Word],
     pattern: &mut [u8],
     work: &mut [u8],
     store: &mut [u8],
 ) -> RunEnd
-    requires { Evaluable file.now setting sheet.old work.old × Running setting.inputs 1 threshold store.old pattern.old × NetsListed setting.inputs order.now × (ratio ≤ 10000) × (budget ≤ 10000) × (72 * (1 + 3 * budget) ≤ length store.old) × ProbesCovered (simulated_drop file.now table.now) (state_in setting.inputs 1 threshold store.old pattern.old) }
-    ensures { Ran file.now setting table.now order.now ratio budget (state_in setting.inputs 1 threshold store.old pattern.old) store.old pattern.old result store.new pattern.new }
+    requires { Evaluable file.now setting sheet.old work.old × Running setting.inputs 1 threshold store.old pattern.old × NetsListed setting.inputs order.now × (limits.ratio ≤ 10000) × (limits.budget ≤ 10000) × (72 * (1 + 3 * limits.budget) ≤ length store.old) × ProbesCovered (simulated_drop file.now table.now) (state_in setting.inputs 1 threshold store.old pattern.old) }
+    ensures { Ran file.now setting table.now order.now limits.ratio limits.budget (state_in setting.inputs 1 threshold store.old pattern.old) store.old pattern.old result store.new pattern.new }
 {
     let mut cases: usize = 1;
     let mut best = threshold;
     let mut splits: u64 = 0;
+    // Form kept: the new form is no plainer: past a `for` over the splits would have to stand an end of the run that is never reached.
     loop {
         let k = store::argmax(store, cases);
         let upper = store::upper(store, k);
         let lower = best - 1;
-        if upper == lower {
-            return ended(Outcome::Exact, upper, lower, splits, cases);
-        }
-        if 1000 * upper <= ratio * lower {
-            return ended(Outcome::Within, upper, lower, splits, cases);
-        }
-        if splits == budget {
-            return ended(Outcome::Spent, upper, lower, splits, cases);
+        if let Some(outcome) = limits.end_before_split(upper, lower, splits) {
+            return RunEnd {
+                outcome,
+                upper,
+                lower,
+                splits,
+                cases,
+            };
         }
         let step = split::split(
             file, setting, table, order, k, upper, cases, best, sheet, pattern, work, store,

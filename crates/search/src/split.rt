@@ -1,5 +1,5 @@
 // A case split: its children made, one for each excitation that its set at the chosen input allows.
-ghost use Rattle.std.specs.Prelude.{◌≡◌, ◌+◌, ◌*◌, ◌≤◌, ◌<◌, length};
+ghost use Rattle.std.specs.Prelude.{◌≡◌, ◌+◌, ◌*◌, ◌≤◌, ◌<◌, max, length};
 ghost use Rattle.block.specs.Limits.{drop_limit};
 ghost use Rattle.operation.specs.SplitOrder.{NetsListed};
 ghost use Rattle.cases.specs.Probes.{ProbesCovered};
@@ -8,13 +8,35 @@ ghost use Rattle.evaluation.specs.Evaluation.{Evaluable};
 ghost use Rattle.bounds.specs.Bounds.{simulated_drop, probe_drop};
 ghost use Rattle.search.specs.Steps.{state_in, ChildMade, Running, CaseToSplit, CaseSplit};
 
-use super::Step;
 use block::Net;
 use bounds::make;
 use cases::{CaseNumber, choice, sets, store};
 use evaluation::Setting;
 use excitation::Set;
 use sheet::Word;
+
+// Where a split stands: how many cases there are, the place of the next child, and the drop that makes a probe the best.
+#[derive(Clone, Copy)]
+pub struct Step {
+    pub cases: usize,
+    pub next: CaseNumber,
+    pub threshold: u64,
+}
+
+impl Step {
+    // Once a child is made at the next place: the one after it comes past the cases.
+    fn child_made(self, threshold: u64) -> Step
+        requires { self.next.0 ≤ 30000 }
+        ensures { result ≡ record { cases = max (self.next.0 + 1) self.cases; next = record { 0 = max (self.next.0 + 1) self.cases }; threshold = threshold } }
+    {
+        let cases = self.cases.max(self.next.0 + 1);
+        Step {
+            cases,
+            next: CaseNumber(cases),
+            threshold,
+        }
+    }
+}
 
 // Makes the child whose input has the excitation of byte e, where the parent's set allows it. The child of the first allowed has its
 // parent's probe, whose drop is known to be below the threshold.
@@ -32,7 +54,7 @@ fn make_child(
     work: &mut [u8],
     store: &mut [u8],
 ) -> Step
-    requires { Evaluable file.now setting sheet.old work.old × (length parent.now ≡ 64) × SetCodes setting.inputs parent.now × (input.0 < setting.inputs) × (e < 4) × (length pattern.old ≡ 64) × HasCase store.old step.next.0 × (step.cases ≤ 30001) × (step.threshold ≤ drop_limit) × (probe_drop file.now setting table.now parent.now < step.threshold) }
+    requires { Evaluable file.now setting sheet.old work.old × (length parent.now ≡ 64) × SetCodes setting.inputs parent.now × (input.0 < setting.inputs) × (e < 4) × (length pattern.old ≡ 64) × HasCase store.old step.next.0 × (step.threshold ≤ drop_limit) × (probe_drop file.now setting table.now parent.now < step.threshold) }
     ensures { ChildMade file.now setting table.now parent.now input.0 e cap step store.old pattern.old result store.new pattern.new }
 {
     let net = input.0;
@@ -43,7 +65,12 @@ fn make_child(
     }
     let codes = sets::child_codes(parent, input, e);
     let known = e == sets::first_allowed(code);
-    let next = step.next;
+    if known {
+        make::bound_case(
+            file, setting, table, &codes, cap, step.next, sheet, work, store,
+        );
+        return step.child_made(step.threshold);
+    }
     let threshold = make::make_case(
         file,
         setting,
@@ -51,19 +78,13 @@ fn make_child(
         &codes,
         cap,
         step.threshold,
-        known,
-        next,
+        step.next,
         sheet,
         pattern,
         work,
         store,
     );
-    let cases = numbers::max_usize(next.0 + 1, step.cases);
-    Step {
-        cases,
-        next: CaseNumber(cases),
-        threshold,
-    }
+    step.child_made(threshold)
 }
 
 // Splits case k, the first of the greatest upper number, which is the cap of its children.
@@ -92,12 +113,10 @@ pub fn split(
         next: k,
         threshold,
     };
-    let mut e: u8 = 0;
-    while e < 4 {
+    for e in 0..4 {
         step = make_child(
             file, setting, table, &parent, input, e, cap, step, sheet, pattern, work, store,
         );
-        e += 1;
     }
     step
 }

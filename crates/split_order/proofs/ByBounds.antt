@@ -29,10 +29,11 @@ use Rattle.cases.proofs.SplitOrder.{order_long, order_same}
 use Rattle.bounds.specs.Bounds.{simulated_drop, envelope_drop}
 use Rattle.split_order.specs.Sorting.{smaller, SortsBy}
 use Rattle.split_order.specs.SplitOrder.{BoundOrderArguments, bound_order_checks, bound_order_verdict, frame_order, BoundOrdered}
+use Rattle.split_order.specs.declared.key.Four.{Four}
 use Rattle.split_order.specs.Trying.{tighter_in}
 
 -- The list by the numbers is the list by bounds.
-pub listed_by_bounds : (file : File) (setting : Setting) (table codes keys : List ℕ) {bytes : List ℕ} → sets_in setting.inputs codes ≡ frame file
+pub listed_by_bounds : (file : File) (setting : Setting) (table codes : List ℕ) (keys : List Four) {bytes : List ℕ} → sets_in setting.inputs codes ≡ frame file
     → SortsBy (tighter_in file setting table codes) setting.inputs keys → bytes ≡ list_bytes (in_order (smaller keys) setting.inputs)
     → bytes ≡ list_bytes (frame_order file setting.hops table)
 unfolding frame_order bound_order

@@ -29,6 +29,7 @@ use Rattle.operation.proofs.Operations.{file_accepted}
 use Rattle.cases.specs.SplitOrder.{in_order, lex_below, wider, cone_order}
 use Rattle.cases.proofs.SplitOrder.{order_long, order_same}
 use Rattle.split_order.specs.Sorting.{smaller, KeysMade, SortsBy}
+use Rattle.split_order.specs.declared.key.Four.{Four}
 use Rattle.split_order.specs.SplitOrder.{cone_order_made}
 
 turned : (a b : ℕ) → a ≤ 1024 → b ≤ 1024 → ltb (1024 - a) (1024 - b) ≡ ltb b a
@@ -45,11 +46,10 @@ one_number a b = cases (ltb a b) (λ t. rw t refl) (λ t. rw t (cases (eqb a b) 
 abbrev pub ConeKey : List ℕ → ℕ → List ℕ → Type 0
 ConeKey cones net numbers = numbers ≡ (1024 - get_or cones net 0) ∷ 0 ∷ 0 ∷ 0 ∷ []
 
-pub cones_sort : (cones : List ℕ) (n : ℕ) (keys : List ℕ) → ((net : ℕ) → net < n → get_or cones net 0 ≤ 1024) → KeysMade (ConeKey cones) n keys
+pub cones_sort : (cones : List ℕ) (n : ℕ) (keys : List Four) → ((net : ℕ) → net < n → get_or cones net 0 ≤ 1024) → KeysMade (ConeKey cones) n keys
     → SortsBy (wider (λ net. get_or cones net 0)) n keys
 unfolding smaller wider
 cones_sort cones n keys low made = record {
-  long = made.long;
   same = λ a b h l. rw (made.at a h, made.at b l)
       (one_number (1024 - get_or cones a 0) (1024 - get_or cones b 0) ∙ turned (get_or cones a 0) (get_or cones b 0) (low a h) (low b l));
 }
@@ -62,7 +62,7 @@ cone_few file nets inputs net accepted =
     omega (arith, accepted.net_count_lem, accepted.few_nets, count_at_most (net_count file) (λ gate. get_or fed gate false))
 
 -- The list by the numbers is the list by cone.
-pub listed_by_cone : (cones keys : List ℕ) {file : File} {nets inputs : ℕ} {bytes : List ℕ} → AcceptedFile file nets inputs
+pub listed_by_cone : (cones : List ℕ) (keys : List Four) {file : File} {nets inputs : ℕ} {bytes : List ℕ} → AcceptedFile file nets inputs
     → ((net : ℕ) → net < inputs → get_or cones net 0 ≡ cone_size file net) → SortsBy (wider (λ net. get_or cones net 0)) inputs keys
     → bytes ≡ list_bytes (in_order (smaller keys) inputs) → bytes ≡ list_bytes (cone_order file)
 unfolding cone_order wider

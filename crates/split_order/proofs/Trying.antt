@@ -1,15 +1,17 @@
 -- Laws of inputs tried: one child more, and the numbers of the inputs sort as the second maker asks.
 -- Assumes nothing.
-use Prim.Native.Nat.{ℕ, ◌+◌, ◌*◌, ◌≤◌, ◌<◌, max, min}
+use Prim.Native.Nat.{ℕ, zero, suc, ◌+◌, ◌≤◌, ◌<◌, max, min}
 use mathlib.Core.Bool.{Bool, true, false, not, ◌&&◌, ◌||◌, false≢true}
 use mathlib.Core.List.{List, [], ◌∷◌, map, map-append}
 use mathlib.Core.Path.{◌≡◌, refl, ap, sym, subst, ◌∙◌}
-use native.Mathlib.Nat.{add-zero}
+use native.Mathlib.Numerals.{add-one}
 use native.Mathlib.Omega.{arith}
 use lib.ListN.{length, get_or, set, take, length-map}
 use borrow.Table.Steps.{cases}
+use Rattle.std.specs.List.{count_by}
+use Rattle.std.proofs.lemmas.List.Sums.{count_by_more_yes, count_by_more_no}
 use Rattle.laws.specs.Below.{count_below}
-use Rattle.laws.proofs.Below.{count_next, count_two}
+use Rattle.laws.proofs.Below.{count_two}
 use Rattle.laws.proofs.Tests.{refuted, confirmed}
 use Rattle.excitation.specs.Excitation.{excitation_of}
 use Rattle.excitation.specs.UncertaintySet.{member, empty, decode, single, sets_in}
@@ -28,7 +30,7 @@ use Rattle.cases.proofs.Fours.{four_more}
 use Rattle.bounds.specs.Bounds.{simulated_drop, envelope_drop, own_upper, upper_of, CaseEvaluated}
 use Rattle.split_order.specs.Sorting.{four_of, four_at, smaller, KeysMade, SortsBy}
 use Rattle.split_order.specs.Trying.{Triable, decided_key, UntriedKey, uppers_below, TriedBelow, TriedKey, tighter_in}
-use Rattle.split_order.specs.declared.Four.{Four}
+use Rattle.split_order.specs.declared.key.Four.{Four}
 use Rattle.split_order.proofs.Keys.{lex_same, lex_ahead, lex_behind}
 
 -- What trying is given, with a sheet.
@@ -41,13 +43,15 @@ triable ready long same = record {
   rows = record { whole = omega (arith, ready.rows.whole); numbered = ready.rows.numbered };
 }
 
--- The undecided inputs counted, one input more.
-
-pub count_passed : (p : ℕ → Bool) {n count : ℕ} {test : Bool} → count ≡ count_below n p → test ≡ p n → test ≡ true → count + 1 ≡ count_below (n + 1) p
-count_passed p {n} counted is t = rw (count_next n p, sym is ∙ t) (ap (λ k. k + 1) counted)
-
-pub count_failed : (p : ℕ → Bool) {n count : ℕ} {test : Bool} → count ≡ count_below n p → test ≡ p n → test ≡ false → count ≡ count_below (n + 1) p
-count_failed p {n} counted is t = rw (count_next n p, sym is ∙ t) (counted ∙ sym (add-zero _))
+-- The undecided inputs counted, by their codes and by their numbers.
+counted_below : (p : ℕ → Bool) (codes : List ℕ) (n : ℕ) → n ≤ length codes → count_by p (take n codes) ≡ count_below n (λ net. p (get_or codes net 0))
+unfolding count_below
+counted_below p codes zero h = refl
+counted_below p codes (suc n) h =
+    let so_far = counted_below p codes n (omega arith) in
+    cases (p (get_or codes n 0))
+    (λ t. let more = rw add-one at (count_by_more_yes p codes n 0 (omega arith) t) in rw t (omega (arith, more, so_far)))
+    (λ t. let same = rw add-one at (count_by_more_no p codes n 0 (omega arith) t) in rw t (omega (arith, same, so_far)))
 
 -- One child more
 
@@ -129,8 +133,8 @@ module _ (file : File) (setting : Setting) (table codes : List ℕ) where
   tighter_is a b h l = rw (set_at setting.inputs codes a empty h, set_at setting.inputs codes b empty l) refl
 
   -- Numbers that are the decided inputs' for those, and smaller for the others, sort as asked where they sort the undecided so.
-  module _ (keys : List ℕ) (decided_is : (net : ℕ) → net < setting.inputs → undecided_at net ≡ false → four_at keys net ≡ decided_key)
-      (low : (net : ℕ) → net < setting.inputs → undecided_at net ≡ true → get_or keys (4 * net) 0 < drop_limit)
+  module _ (keys : List Four) (decided_is : (net : ℕ) → net < setting.inputs → undecided_at net ≡ false → four_at keys net ≡ decided_key)
+      (low : (net : ℕ) → net < setting.inputs → undecided_at net ≡ true → get_or (four_at keys net) 0 0 < drop_limit)
       (both : (a b : ℕ) → a < setting.inputs → b < setting.inputs → undecided_at a ≡ true → undecided_at b ≡ true
       → smaller keys a b ≡ lex_below (tried_at a) (tried_at b)) where
     decided_last : (a b : ℕ) → a < setting.inputs → b < setting.inputs → undecided_at a ≡ false → smaller keys a b ≡ false
@@ -152,11 +156,10 @@ module _ (file : File) (setting : Setting) (table codes : List ℕ) where
         (λ v. undecided_first a b h l u v ∙ sym (tighter_is a b h l ∙ rw (u, v) refl)))
         (λ u. decided_last a b h l u ∙ sym (tighter_is a b h l ∙ rw u refl))
 
-  pub tried_sorts : (keys : List ℕ) → KeysMade (TriedKey file setting table codes) setting.inputs keys
+  pub tried_sorts : (keys : List Four) → KeysMade (TriedKey file setting table codes) setting.inputs keys
       → SortsBy (tighter_in file setting table codes) setting.inputs keys
   unfolding four_at smaller
   tried_sorts keys made = record {
-    long = made.long;
     same = sorts_so keys
         (λ net h d. (made.at net h).decided_is d)
         (λ net h u. ((made.at net h).undecided_is u).1)
@@ -164,15 +167,15 @@ module _ (file : File) (setting : Setting) (table codes : List ℕ) where
   }
 
   -- Where fewer than two inputs are undecided, none has to be tried: two undecided ones are the same.
-  pub untried_sorts : (keys : List ℕ) {count : ℕ} → count ≡ count_below setting.inputs undecided_at → count < 2
-      → KeysMade (UntriedKey codes) setting.inputs keys → SortsBy (tighter_in file setting table codes) setting.inputs keys
+  pub untried_sorts : (keys : List Four) {count : ℕ} → setting.inputs ≤ length codes
+      → count ≡ count_by (λ code. undecided (decode code)) (take setting.inputs codes) → count < 2 → KeysMade (UntriedKey codes) setting.inputs keys → SortsBy (tighter_in file setting table codes) setting.inputs keys
   unfolding four_at smaller
-  untried_sorts keys counted few made = record {
-    long = made.long;
+  untried_sorts keys enough counted few made = record {
     same = sorts_so keys
         (λ net h d. (made.at net h).decided_is d)
-        (λ net h u. let zero_first : get_or keys (4 * net) 0 ≡ 0 = ap (λ xs. get_or xs 0 0) ((made.at net h).undecided_is u) in omega arith)
+        (λ net h u. let zero_first : get_or (four_at keys net) 0 0 ≡ 0 = ap (λ xs. get_or xs 0 0) ((made.at net h).undecided_is u) in omega arith)
         (λ a b h l u v.
-        let same : a ≡ b = count_two setting.inputs undecided_at a b h l u v (omega (arith, counted)) in
+        let same : a ≡ b = count_two setting.inputs undecided_at a b h l u v
+        (omega (arith, counted, counted_below (λ code. undecided (decode code)) codes setting.inputs enough)) in
         rw same (lex_same (four_at keys b) ∙ sym (lex_same (tried_at b))));
   }

@@ -10,7 +10,7 @@ use Rattle.cases.specs.Case.{undecided, children_below}
 use Rattle.cases.specs.SplitOrder.{four, child_upper, tried_uppers, tighter}
 use Rattle.bounds.specs.Bounds.{simulated_drop, envelope_drop}
 use Rattle.split_order.specs.Sorting.{four_of}
-use Rattle.split_order.specs.declared.Four.{Four}
+use Rattle.split_order.specs.declared.key.Four.{Four}
 
 -- What trying inputs is given: an accepted file, a hop limit and room for the rows of its nets.
 pub record Triable (file : File) (setting : Setting) (work : List ℕ) : Type 0 where

@@ -1,6 +1,5 @@
 // The list by bounds: each undecided input of the whole frame is tried, and goes by the upper numbers of its children.
-ghost use Rattle.std.specs.Prelude.{true, false, [], ◌∷◌, ◌≡◌, ◌+◌, ◌≤◌, ◌<◌, length, get_or};
-ghost use Rattle.laws.specs.Below.{count_below};
+ghost use Rattle.std.specs.Prelude.{true, false, [], ◌∷◌, ◌≡◌, ◌+◌, ◌≤◌, ◌<◌, length, take, count_by};
 ghost use Rattle.excitation.specs.UncertaintySet.{decode};
 ghost use Rattle.block.specs.Verdict.{verdict};
 ghost use Rattle.operation.specs.SplitOrder.{list_bytes};
@@ -12,7 +11,8 @@ ghost use Rattle.split_order.specs.Sorting.{four_of, KeysMade, SortsBy};
 ghost use Rattle.split_order.specs.SplitOrder.{bound_order_checks, frame_order, BoundOrdered};
 ghost use Rattle.split_order.specs.Trying.{Triable, decided_key, UntriedKey, TriedBelow, TriedKey, tighter_in};
 
-use super::{Four, key, sort};
+use super::key::Four;
+use super::sort;
 use block::{Counts, Net, Refusal};
 use bounds::evaluate;
 use cases::sets;
@@ -22,22 +22,18 @@ use operation::{SplitOrder, arguments};
 use sheet::Word;
 
 // Above every upper number: the first number of a decided input, which follows all others.
-const DECIDED: u64 = 18446744073709551615;
+const DECIDED: u64 = u64::MAX;
 
 // How many inputs are undecided.
 fn undecided_inputs(codes: &[u8], inputs: usize) -> usize
     requires { inputs ≤ length codes.now }
-    ensures { result ≡ count_below inputs (λ net. undecided (decode (get_or codes.now net 0))) }
+    ensures { result ≡ count_by (λ code. undecided (decode code)) (take inputs codes.now) }
 {
-    let mut count: usize = 0;
-    let mut net: usize = 0;
-    while net < inputs {
-        if sets::is_undecided(codes[net]) {
-            count += 1;
-        }
-        net += 1;
-    }
-    count
+    let codes = &codes[..inputs];
+    codes
+        .iter()
+        .filter(|code| sets::is_undecided(**code))
+        .count()
 }
 
 // The four numbers of an input that is not tried.
@@ -45,21 +41,21 @@ fn untried(code: u8) -> Four
     ensures { (undecided (decode code) ≡ true → four_of result ≡ 0 ∷ 0 ∷ 0 ∷ 0 ∷ []) × (undecided (decode code) ≡ false → four_of result ≡ decided_key) }
 {
     if sets::is_undecided(code) {
-        return key::alone(0);
+        return Four::alone(0);
     }
-    key::alone(DECIDED)
+    Four::alone(DECIDED)
 }
 
-// Writes the numbers of the inputs where none is tried.
-fn write_untried(codes: &[u8], inputs: usize, keys: &mut [u64])
-    requires { (inputs ≤ 64) × (length codes.now ≡ 64) × (length keys.old ≡ 256) }
-    ensures { KeysMade (UntriedKey codes.now) inputs keys.new }
+// The numbers of the inputs where none is tried.
+fn untried_keys(codes: &[u8; 64], inputs: usize) -> [Four; 64]
+    requires { inputs ≤ 64 }
+    ensures { KeysMade (UntriedKey codes.now) inputs result }
 {
-    let mut net: usize = 0;
-    while net < inputs {
-        key::write(keys, Net(net), untried(codes[net]));
-        net += 1;
+    let mut keys = [Four::alone(0); 64];
+    for net in 0..inputs {
+        keys[net] = untried(codes[net]);
     }
+    keys
 }
 
 // Tries the child whose input has the excitation of byte e, where the frame's set allows it: puts its upper number among those of the
@@ -68,7 +64,7 @@ fn try_child(
     file: &[u8],
     setting: Setting,
     table: &[u16],
-    frame: &[u8],
+    frame: &[u8; 64],
     input: Net,
     e: u8,
     cap: u64,
@@ -76,7 +72,7 @@ fn try_child(
     sheet: &mut [Word],
     work: &mut [u8],
 ) -> Four
-    requires { Evaluable file.now setting sheet.old work.old × (length frame.now ≡ 64) × SetCodes setting.inputs frame.now × (input.0 < setting.inputs) × (e < 4) × (cap ≡ upper_of file.now setting table.now frame.now) × TriedBelow file.now setting table.now frame.now input.0 e tried }
+    requires { Evaluable file.now setting sheet.old work.old × SetCodes setting.inputs frame.now × (input.0 < setting.inputs) × (e < 4) × (cap ≡ upper_of file.now setting table.now frame.now) × TriedBelow file.now setting table.now frame.now input.0 e tried }
     ensures { TriedBelow file.now setting table.now frame.now input.0 (e + 1) result }
 {
     let net = input.0;
@@ -86,7 +82,7 @@ fn try_child(
     }
     let codes = sets::child_codes(frame, input, e);
     let own = evaluate::evaluate_case(file, setting, table, &codes, sheet, work);
-    key::put(tried, numbers::min_u64(cap, own))
+    tried.put(cap.min(own))
 }
 
 // Tries an input of the frame: its children's upper numbers in falling order, filled with 0 to four. A decided one is not tried.
@@ -94,69 +90,63 @@ fn try_input(
     file: &[u8],
     setting: Setting,
     table: &[u16],
-    frame: &[u8],
+    frame: &[u8; 64],
     input: Net,
     cap: u64,
     sheet: &mut [Word],
     work: &mut [u8],
 ) -> Four
-    requires { Evaluable file.now setting sheet.old work.old × (length frame.now ≡ 64) × SetCodes setting.inputs frame.now × (input.0 < setting.inputs) × (cap ≡ upper_of file.now setting table.now frame.now) }
+    requires { Evaluable file.now setting sheet.old work.old × SetCodes setting.inputs frame.now × (input.0 < setting.inputs) × (cap ≡ upper_of file.now setting table.now frame.now) }
     ensures { TriedKey file.now setting table.now frame.now input.0 (four_of result) }
 {
     let net = input.0;
     if !sets::is_undecided(frame[net]) {
-        return key::alone(DECIDED);
+        return Four::alone(DECIDED);
     }
-    let mut tried = key::alone(0);
-    let mut e: u8 = 0;
-    while e < 4 {
+    let mut tried = Four::alone(0);
+    for e in 0..4 {
         tried = try_child(
             file, setting, table, frame, input, e, cap, tried, sheet, work,
         );
-        e += 1;
     }
     tried
 }
 
-// Tries every undecided input, and writes the numbers of all. The sheet is scratch, and the call's own.
-fn write_tried(
+// Tries every undecided input: the numbers of all. The sheet is scratch, and the call's own.
+fn tried_keys(
     file: &[u8],
     setting: Setting,
     table: &[u16],
-    frame: &[u8],
-    keys: &mut [u64],
+    frame: &[u8; 64],
     work: &mut [u8],
-)
-    requires { Triable file.now setting work.old × (length frame.now ≡ 64) × SetCodes setting.inputs frame.now × (length keys.old ≡ 256) }
-    ensures { KeysMade (TriedKey file.now setting table.now frame.now) setting.inputs keys.new }
+) -> [Four; 64]
+    requires { Triable file.now setting work.old × SetCodes setting.inputs frame.now }
+    ensures { KeysMade (TriedKey file.now setting table.now frame.now) setting.inputs result }
 {
+    let mut keys = [Four::alone(0); 64];
     let mut sheet: [Word; 8192] = [0; 8192];
     let cap = evaluate::evaluate_case(file, setting, table, frame, &mut sheet, work);
-    let mut net: usize = 0;
-    while net < setting.inputs {
-        let key = try_input(file, setting, table, frame, Net(net), cap, &mut sheet, work);
-        key::write(keys, Net(net), key);
-        net += 1;
+    for net in 0..setting.inputs {
+        keys[net] = try_input(file, setting, table, frame, Net(net), cap, &mut sheet, work);
     }
+    keys
 }
 
-// Writes the numbers of the inputs. Of fewer than two undecided inputs none has to be tried.
-fn write_keys(
+// The numbers of the inputs. Of fewer than two undecided inputs none has to be tried.
+fn bound_keys(
     file: &[u8],
     setting: Setting,
     table: &[u16],
-    frame: &[u8],
-    keys: &mut [u64],
+    frame: &[u8; 64],
     work: &mut [u8],
-)
-    requires { Triable file.now setting work.old × (length frame.now ≡ 64) × SetCodes setting.inputs frame.now × (length keys.old ≡ 256) }
-    ensures { SortsBy (tighter_in file.now setting table.now frame.now) setting.inputs keys.new }
+) -> [Four; 64]
+    requires { Triable file.now setting work.old × SetCodes setting.inputs frame.now }
+    ensures { SortsBy (tighter_in file.now setting table.now frame.now) setting.inputs result }
 {
     if undecided_inputs(frame, setting.inputs) < 2 {
-        write_untried(frame, setting.inputs, keys);
-        return;
+        return untried_keys(frame, setting.inputs);
     }
-    write_tried(file, setting, table, frame, keys, work);
+    tried_keys(file, setting, table, frame, work)
 }
 
 // The list of an accepted file, with arguments that passed.
@@ -166,8 +156,7 @@ fn list_by_bounds(file: &[u8], setting: Setting, table: &[u16], work: &mut [u8])
 {
     let mut frame = [0u8; 64];
     block::frame_codes(file, setting.inputs, &mut frame);
-    let mut keys = [0u64; 256];
-    write_keys(file, setting, table, &frame, &mut keys, work);
+    let keys = bound_keys(file, setting, table, &frame, work);
     sort::sorted(&keys, setting.inputs)
 }
 

@@ -6,21 +6,22 @@ ghost use Rattle.cases.specs.SplitOrder.{wider, cone_order};
 ghost use Rattle.split_order.specs.Sorting.{SortsBy};
 ghost use Rattle.split_order.specs.SplitOrder.{cone_order_made};
 
-use super::{key, reach, sort};
-use block::{Counts, Net, Refusal};
+use super::key::Four;
+use super::{reach, sort};
+use block::{Counts, Refusal};
 use operation::SplitOrder;
 
-// Writes the numbers of the inputs: 1,024 less the gates in the cone, and 0 three times.
-fn write_keys(cones: &[u16], inputs: usize, keys: &mut [u64])
-    requires { (inputs ≤ 64) × (inputs ≤ length cones.now) × ((net : ℕ) → net < inputs → get_or cones.now net 0 ≤ 1024) × (length keys.old ≡ 256) }
-    ensures { SortsBy (wider (λ net. get_or cones.now net 0)) inputs keys.new }
+// The numbers of the inputs: 1,024 less the gates in the cone, and 0 three times.
+fn cone_keys(cones: &[u16; 64], inputs: usize) -> [Four; 64]
+    requires { (inputs ≤ 64) × ((net : ℕ) → net < inputs → get_or cones.now net 0 ≤ 1024) }
+    ensures { SortsBy (wider (λ net. get_or cones.now net 0)) inputs result }
 {
-    let mut net: usize = 0;
-    while net < inputs {
-        let narrow = 1024 - numbers::u64_from_u16(cones[net]);
-        key::write(keys, Net(net), key::alone(narrow));
-        net += 1;
+    let mut keys = [Four::alone(0); 64];
+    for net in 0..inputs {
+        let narrow = 1024 - u64::from(cones[net]);
+        keys[net] = Four::alone(narrow);
     }
+    keys
 }
 
 // The list of an accepted file.
@@ -28,11 +29,8 @@ fn list_by_cone(file: &[u8], nets: usize, inputs: usize) -> [u8; 64]
     requires { AcceptedFile file.now nets inputs }
     ensures { result ≡ list_bytes (cone_order file.now) }
 {
-    let mut cones = [0u16; 64];
-    reach::write_cones(file, nets, inputs, &mut cones);
-    let mut keys = [0u64; 256];
-    write_keys(&cones, inputs, &mut keys);
-    sort::sorted(&keys, inputs)
+    let cones = reach::cones(file, nets, inputs);
+    sort::sorted(&cone_keys(&cones, inputs), inputs)
 }
 
 // The first maker: the checks of the file, then the list by cone.

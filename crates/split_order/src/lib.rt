@@ -6,12 +6,3 @@ pub mod by_cone;
 mod key;
 mod reach;
 mod sort;
-
-// The four numbers that an input is sorted by.
-#[derive(Clone, Copy)]
-struct Four {
-    first: u64,
-    second: u64,
-    third: u64,
-    fourth: u64,
-}

@@ -1,5 +1,5 @@
 // Fan-out cones counted: which inputs reach each net, as bits of a word, and how many gates each input reaches.
-ghost use Rattle.std.specs.Prelude.{◌≡◌, ℕ, ◌^◌, ◌≤◌, ◌<◌, length};
+ghost use Rattle.std.specs.Prelude.{◌≡◌, ℕ, ◌^◌, ◌≤◌, ◌<◌, get_or};
 ghost use Rattle.block.specs.Accepted.{AcceptedFile};
 ghost use Rattle.block.specs.Block.{cone_size};
 ghost use Rattle.block.specs.View.{pin_of};
@@ -9,71 +9,63 @@ ghost use Rattle.split_order.specs.Reach.{gate_word, Reached, reached_gates};
 use block::{Gate, Net, view};
 
 // Writes the words of the inputs: each input reaches itself alone of them.
-fn write_own(inputs: usize, words: &mut [u64])
-    requires { (inputs ≤ 64) × (inputs ≤ length words.old) }
+fn write_own(inputs: usize, words: &mut [u64; 1024])
+    requires { inputs ≤ 64 }
     ensures { Rewritten (λ input. 2 ^ input) 0 inputs words.old words.new }
 {
-    let mut input: usize = 0;
-    while input < inputs {
+    for input in 0..inputs {
         words[input] = 1 << input;
-        input += 1;
     }
 }
 
 // The word of a gate, from the words of the nets below it.
-fn gate_word(gate: Gate, words: &[u64]) -> u64
-    requires { (length words.now ≡ 1024) × (gate.used ≤ 4) × ((p : ℕ) → p < gate.used → pin_of gate p < 1024) }
+fn gate_word(gate: Gate, words: &[u64; 1024]) -> u64
+    requires { (gate.used ≤ 4) × ((p : ℕ) → p < gate.used → pin_of gate p < 1024) }
     ensures { result ≡ gate_word gate words.now }
 {
     let mut word: u64 = 0;
-    let mut p: usize = 0;
-    while p < gate.used {
+    // Form kept: `for pin in &gate.pins[..gate.used]` was tried and the proof didn't close.
+    for p in 0..gate.used {
         let pin = gate.pins[p];
-        let at = pin.0;
-        word = word | words[at];
-        p += 1;
+        word |= words[pin.0];
     }
     word
 }
 
 // Writes the word of each net: bit i is set where input i reaches the net.
-fn write_words(file: &[u8], nets: usize, inputs: usize, words: &mut [u64])
-    requires { AcceptedFile file.now nets inputs × (length words.old ≡ 1024) }
+fn write_words(file: &[u8], nets: usize, inputs: usize, words: &mut [u64; 1024])
+    requires { AcceptedFile file.now nets inputs }
     ensures { Reached file.now inputs nets words.new }
 {
     write_own(inputs, words);
-    let mut net = inputs;
-    while net < nets {
+    for net in inputs..nets {
         let gate = view::gate(file, Net(net));
         words[net] = gate_word(gate, words);
-        net += 1;
     }
 }
 
 // How many gates an input reaches.
-fn reached_gates(words: &[u64], nets: usize, inputs: usize, source: Net) -> u16
-    requires { (inputs ≤ nets) × (nets ≤ 1024) × (nets ≤ length words.now) × (source.0 < 64) }
+fn reached_gates(words: &[u64; 1024], nets: usize, inputs: usize, source: Net) -> u16
+    requires { (inputs ≤ nets) × (nets ≤ 1024) × (source.0 < 64) }
     ensures { result ≡ reached_gates words.now nets inputs source.0 }
 {
     let mut count: u64 = 0;
-    let mut net = inputs;
-    while net < nets {
+    for net in inputs..nets {
         count += (words[net] >> source.0) % 2;
-        net += 1;
     }
     count as u16
 }
 
-// Writes how many gates stand in the fan-out cone of each input.
-pub fn write_cones(file: &[u8], nets: usize, inputs: usize, cones: &mut [u16])
-    requires { AcceptedFile file.now nets inputs × (length cones.old ≡ 64) }
-    ensures { Rewritten (cone_size file.now) 0 inputs cones.old cones.new }
+// How many gates stand in the fan-out cone of each input.
+pub fn cones(file: &[u8], nets: usize, inputs: usize) -> [u16; 64]
+    requires { AcceptedFile file.now nets inputs }
+    ensures { (net : ℕ) → net < inputs → get_or result net 0 ≡ cone_size file.now net }
 {
     let mut words = [0u64; 1024];
+    let mut cones = [0u16; 64];
     write_words(file, nets, inputs, &mut words);
-    let mut net: usize = 0;
-    while net < inputs {
+    for net in 0..inputs {
         cones[net] = reached_gates(&words, nets, inputs, Net(net));
-        net += 1;
     }
+    cones
 }

@@ -1,6 +1,5 @@
 -- `search::make_first` meets its contract.
 -- Assumes nothing.
-use mathlib.Core.Bool.{false≢true}
 use native.Mathlib.Omega.{arith}
 use Rattle.cases.proofs.Frames.{codes_long, frame_coded}
 use Rattle.search.proofs.First.{first_made}
@@ -14,8 +13,6 @@ make_case-requires c =
       frame_coded file c.frame_codes.ensures,
       c.requires.1,
       record { whole = omega (arith, c.requires.2); numbered = omega arith },
-      omega arith,
-      λ t. absurd (false≢true t),
     )
 
 pub returns : goal.returns

@@ -1,6 +1,5 @@
 -- `bounds::draw::draw_cases` meets its contract.
 -- Assumes nothing.
-use Prim.Native.Nat.{◌-◌, ◌≤◌}
 use mathlib.Core.Path.{◌≡◌}
 use lib.ListN.{length}
 use Rattle.sheet.specs.Sheet.{sheet_words}
@@ -8,7 +7,4 @@ use Rattle.bounds.proofs.Sheets.{sheet_below}
 use Rattle.bounds.proofs.draw.draw_cases.Given as goal
 
 abbrev pub invariant-loop-k : goal.invariant-loop-k
-invariant-loop-k l = (l.k ≤ l.n) × (length l.work ≡ length l.initial.work) × (length l.one ≡ 8192) × (l.sheet ≡ sheet_words (sheet_below l.file l.setting.hops l.setting.inputs l.store l.k))
-
-abbrev pub decreases-loop-k : goal.decreases-loop-k
-decreases-loop-k l = l.n - l.k
+invariant-loop-k l = (length l.work ≡ length l.initial.work) × (length l.one ≡ 8192) × (l.sheet ≡ sheet_words (sheet_below l.file l.setting.hops l.setting.inputs l.store l.k))

@@ -1,23 +1,12 @@
 -- `bounds::evaluate::evaluate_case` meets its contract.
 -- Assumes nothing.
 use Rattle.bounds.proofs.Evaluating.{case_simulated, case_enveloped}
-use Rattle.bounds.proofs.Making.{case_codes}
 use Rattle.bounds.proofs.evaluate.evaluate_case.Goals as goal
-
-pub evaluate_singles-simulated-requires : goal.evaluate_singles-simulated-requires
-evaluate_singles-simulated-requires c =
-    let pre = c.requires in
-    (pre.0, case_codes pre.0.accepted.few_inputs pre.1 pre.2)
 
 pub returns-then-decided : goal.returns-then-decided
 returns-then-decided c =
     case_simulated _ c.args.setting c.is_decided-decided.ensures
     c.if-decided.true c.requires.2 c.evaluate_singles-simulated.ensures
-
-pub evaluate-enveloped-requires : goal.evaluate-enveloped-requires
-evaluate-enveloped-requires c =
-    let pre = c.requires in
-    (pre.0, case_codes pre.0.accepted.few_inputs pre.1 pre.2)
 
 pub returns : goal.returns
 returns c =

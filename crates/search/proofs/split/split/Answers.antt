@@ -9,18 +9,8 @@ use Rattle.evaluation.proofs.Given.{evaluable_kept}
 use Rattle.search.proofs.Splitting.{child_room, parent_below, splitting_begun, splitting_next, case_split}
 use Rattle.search.proofs.split.split.Goals as goal
 
-pub read_sets-requires : goal.read_sets-requires
-read_sets-requires c =
-    (record { whole = omega (arith, c.requires.2.inside, c.requires.4); numbered = omega (arith, c.requires.2.inside, c.requires.5) }, length-replicate {A = ℕ} 64 0)
-
-pub choose-input-requires : goal.choose-input-requires
-choose-input-requires c =
-    let accepted = c.requires.0.accepted in
-    let long = c.read_sets.ensures.long ∙ length-replicate {A = ℕ} 64 0 in
-    (accepted.one_input, omega (arith, accepted.few_inputs, long), c.requires.3)
-
 pub loop-e-init : goal.loop-e-init
-loop-e-init c = (omega arith, refl, refl, splitting_begun c.requires.1)
+loop-e-init c = (refl, refl, splitting_begun c.requires.1)
 
 pub make_child-step-requires : goal.make_child-step-requires
 make_child-step-requires c =
@@ -28,25 +18,18 @@ make_child-step-requires c =
     let ready = c.requires.0 in
     let copied = c.read_sets.ensures in
     let below = c.loop-e-test.true in
-    let room = child_room c.requires.2.inside below c.requires.5 c.requires.4 at.invariant.3 in (
-      evaluable_kept ready at.invariant.1 at.invariant.2,
+    let room = child_room c.requires.2.inside below c.requires.5 c.requires.4 at.invariant.2 in (
+      evaluable_kept ready at.invariant.0 at.invariant.1,
       copied.long ∙ length-replicate {A = ℕ} 64 0,
       codes_copied c.args.setting.inputs ready.accepted.few_inputs c.args.store.now c.args.k.0 _ _ copied
           (c.requires.1.cases.codes c.args.k.0 c.requires.2.inside),
       c.choose-input.ensures.1,
       below,
-      at.invariant.3.best.long ∙ c.requires.1.pattern_long,
-      room.0,
-      room.1,
-      at.invariant.3.best.threshold_high,
-      parent_below ready.accepted.few_inputs c.requires.1 c.requires.2.inside c.requires.6 copied at.invariant.3,
+      at.invariant.2.best.long ∙ c.requires.1.pattern_long,
+      room,
+      at.invariant.2.best.threshold_high,
+      parent_below ready.accepted.few_inputs c.requires.1 c.requires.2.inside c.requires.6 copied at.invariant.2,
     )
-
-pub overflow_add-e : goal.overflow_add-e
-overflow_add-e c = omega (arith, c.loop-e-test.true)
-
-pub loop-e-smaller : goal.loop-e-smaller
-loop-e-smaller c = omega (arith, c.loop-e-test.true)
 
 pub loop-e-preserved : goal.loop-e-preserved
 loop-e-preserved c =
@@ -54,30 +37,17 @@ loop-e-preserved c =
     let at = c.loop-e in
     let accepted = c.requires.0.accepted in
     let copied = c.read_sets.ensures in (
-      omega (arith, c.loop-e-test.true),
-      made.auto.sheet ∙ at.invariant.1,
-      made.auto.work ∙ at.invariant.2,
-      splitting_next c.requires.2.inside c.loop-e-test.true c.requires.5 c.requires.4 at.invariant.3 accepted.few_inputs
+      made.auto.sheet ∙ at.invariant.0,
+      made.auto.work ∙ at.invariant.1,
+      splitting_next c.requires.2.inside c.loop-e-test.true c.requires.5 c.requires.4 at.invariant.2 accepted.few_inputs
           (copied.long ∙ length-replicate {A = ℕ} 64 0)
           (codes_copied c.args.setting.inputs accepted.few_inputs c.args.store.now c.args.k.0 _ _ copied
           (c.requires.1.cases.codes c.args.k.0 c.requires.2.inside))
           c.choose-input.ensures.1 made.ensures,
     )
 
-pub shape_of-sheet : goal.shape_of-sheet
-shape_of-sheet c = c.loop-e.invariant.1
-
-pub shape_of-pattern : goal.shape_of-pattern
-shape_of-pattern c = c.loop-e.invariant.3.best.long
-
-pub shape_of-work : goal.shape_of-work
-shape_of-work c = c.loop-e.invariant.2
-
-pub shape_of-store : goal.shape_of-store
-shape_of-store c = c.loop-e.invariant.3.stored.long
-
 pub returns : goal.returns
 returns c =
     let done = c.loop-e in
     case_split c.args.order.now c.requires.0.accepted c.requires.1 c.requires.2 c.read_sets.ensures c.choose-input.ensures.0
-    (omega (arith, done.invariant.0, c.loop-e-test.false)) done.invariant.3
+    (omega arith) done.invariant.2

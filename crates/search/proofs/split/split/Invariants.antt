@@ -1,6 +1,5 @@
 -- `search::split::split` meets its contract. The loop's invariant: the children of the excitations below e are made.
 -- Assumes nothing.
-use Prim.Native.Nat.{◌-◌, ◌≤◌}
 use mathlib.Core.Path.{◌≡◌}
 use lib.ListN.{length}
 use Rattle.search.proofs.Splitting.{Splitting}
@@ -8,8 +7,5 @@ use Rattle.search.proofs.split.split.Given as goal
 
 abbrev pub invariant-loop-e : goal.invariant-loop-e
 invariant-loop-e l =
-    (l.e ≤ 4) × (length l.sheet ≡ length l.initial.sheet) × (length l.work ≡ length l.initial.work)
+    (length l.sheet ≡ length l.initial.sheet) × (length l.work ≡ length l.initial.work)
     × Splitting l.file l.setting l.table l.parent l.input.0 l.initial.step.next.0 l.cap l.n l.threshold l.initial.store l.initial.pattern l.e l.step.cases l.step.next.0 l.step.threshold l.store l.pattern
-
-abbrev pub decreases-loop-e : goal.decreases-loop-e
-decreases-loop-e l = 4 - l.e

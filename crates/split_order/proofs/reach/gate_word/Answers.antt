@@ -2,31 +2,22 @@
 -- Assumes nothing.
 use mathlib.Core.Path.{◌≡◌, refl}
 use native.Mathlib.Omega.{arith}
-use borrow.Author.Rules.{rules}
 use Rattle.split_order.specs.Reach.{union_below, gate_word}
 use Rattle.split_order.proofs.Cones.{union_next}
 use Rattle.split_order.proofs.reach.gate_word.Goals as goal
 
 pub loop-p-init : goal.loop-p-init
 unfolding union_below
-loop-p-init c = (search rules, refl)
-
-pub offset_bounds-words-at : goal.offset_bounds-words-at
-offset_bounds-words-at c =
-    let inside = c.requires.2 _ c.loop-p-test.true in omega arith
-
-pub bounds-words-at : goal.bounds-words-at
-bounds-words-at c =
-    omega (arith, c.requires.0, c.requires.2 _ c.loop-p-test.true)
+loop-p-init c = refl
 
 pub loop-p-preserved : goal.loop-p-preserved
 loop-p-preserved c =
     let l = c.loop-p in
-    (omega arith, union_next l.p l.word _ l.invariant.1)
+    union_next l.p l.word _ l.invariant
 
 pub returns : goal.returns
 unfolding gate_word
 returns c =
     let l = c.loop-p in
     let e : l.p ≡ c.args.gate.used = omega arith in
-    rw e at l.invariant.1
+    rw e at l.invariant

@@ -1,6 +1,5 @@
 -- `split_order::reach::gate_word` meets its contract. The loop's invariant: the union of the words of the pins passed.
 -- Assumes nothing.
-use Prim.Native.Nat.{◌-◌, ◌≤◌}
 use mathlib.Core.Path.{◌≡◌}
 use lib.ListN.{get_or}
 use Rattle.block.specs.View.{pin_of}
@@ -8,7 +7,4 @@ use Rattle.split_order.specs.Reach.{union_below}
 use Rattle.split_order.proofs.reach.gate_word.Given as goal
 
 abbrev pub invariant-loop-p : goal.invariant-loop-p
-invariant-loop-p l = (l.p ≤ l.gate.used) × (l.word ≡ union_below l.p (λ q. get_or l.words (pin_of l.gate q) 0))
-
-abbrev pub decreases-loop-p : goal.decreases-loop-p
-decreases-loop-p l = l.gate.used - l.p
+invariant-loop-p l = (l.word ≡ union_below l.p (λ q. get_or l.words (pin_of l.gate q) 0))

@@ -1,11 +1,7 @@
 -- `split_order::reach::write_words` meets its contract. The loop's invariant: the words of the nets below the next.
 -- Assumes nothing.
-use Prim.Native.Nat.{◌-◌, ◌≤◌}
 use Rattle.split_order.specs.Reach.{Reached}
 use Rattle.split_order.proofs.reach.write_words.Given as goal
 
 abbrev pub invariant-loop-net : goal.invariant-loop-net
-invariant-loop-net l = (l.inputs ≤ l.net) × (l.net ≤ l.nets) × Reached l.file l.inputs l.net l.words
-
-abbrev pub decreases-loop-net : goal.decreases-loop-net
-decreases-loop-net l = l.nets - l.net
+invariant-loop-net l = Reached l.file l.inputs l.net l.words
