@@ -1,6 +1,6 @@
 -- The words of rows of bits: those of a row that has no tick, and those of rows made from two others tick by tick.
 -- Assumes nothing.
-use Rattle.std.proofs.Common.{◌≡◌, ℕ, zero, suc, ◌-◌, ◌/◌, ◌%◌, ◌^◌, ◌<◌, ◌&&◌, List, [], ◌∷◌, get_or, refl, ap, ◌∙◌, arith}
+use Rattle.std.proofs.Common.{◌≡◌, ℕ, zero, suc, ◌-◌, ◌/◌, ◌%◌, ◌^◌, ◌<◌, ◌&&◌, List, length, get_or, ap, ◌∙◌, arith}
 use lib.Bits.{bit_and, bit_or, or_add_and, and_le_l, and_le_r}
 use Rattle.bits.specs.Bits.{bit_at, row_bit}
 use Rattle.bits.proofs.Bits.{bit_and_lem, bit_or_lem, bit_not, bit_zero}
@@ -31,37 +31,22 @@ no_tick ticks e t h =
     let none = of_words (λ i. get_or ticks i 0 ≡ 0) one.0 one.1 two.1 three.1 (t / 64) (omega arith) in
     ap (λ word. bit_at word (t % 64)) none ∙ bit_zero (t % 64)
 
--- A row of four words that are made one by one.
-abbrev four : (ℕ → ℕ) → List ℕ
-four word = word 0 ∷ word 1 ∷ word 2 ∷ word 3 ∷ []
-
-four_at_lem : (word : ℕ → ℕ) (t : ℕ) → t < 256 → row_bit (four word) t ≡ bit_at (word (t / 64)) (t % 64)
-unfolding row_bit
-four_at_lem word t h =
-    ap (λ word. bit_at word (t % 64)) (of_words (λ i. get_or (four word) i 0 ≡ word i) refl refl refl refl (t / 64) (omega arith))
-
 -- The ticks of one row that are not ticks of another.
-module _ (ticks others : List ℕ) (fits : (i : ℕ) → get_or others i 0 < 2 ^ 64) where
-  abbrev rest : ℕ → ℕ
-  rest i = bit_and (get_or ticks i 0) (2 ^ 64 - 1 - get_or others i 0)
-
-  pub ticks_without : Without ticks others (rest 0 ∷ rest 1 ∷ rest 2 ∷ rest 3 ∷ [])
-  unfolding row_bit
-  ticks_without = record {
-    long = refl;
-    at = λ t h. four_at_lem rest t h
-        ∙ bit_and_lem (get_or ticks (t / 64) 0) (2 ^ 64 - 1 - get_or others (t / 64) 0) (t % 64)
-        ∙ ap (λ b. bit_at (get_or ticks (t / 64) 0) (t % 64) && b) (bit_not 64 (get_or others (t / 64) 0) (t % 64) (fits (t / 64)) (omega arith));
-  }
+pub ticks_without : {ticks others rest : List ℕ} → ((i : ℕ) → get_or others i 0 < 2 ^ 64) → length rest ≡ 4
+    → ((i : ℕ) → i < 4 → get_or rest i 0 ≡ bit_and (get_or ticks i 0) (2 ^ 64 - 1 - get_or others i 0)) → Without ticks others rest
+unfolding row_bit
+ticks_without {ticks} {others} fits long words = record {
+  long = long;
+  at = λ t h. ap (λ word. bit_at word (t % 64)) (words (t / 64) (omega arith))
+      ∙ bit_and_lem (get_or ticks (t / 64) 0) (2 ^ 64 - 1 - get_or others (t / 64) 0) (t % 64)
+      ∙ ap (λ b. bit_at (get_or ticks (t / 64) 0) (t % 64) && b) (bit_not 64 (get_or others (t / 64) 0) (t % 64) (fits (t / 64)) (omega arith));
+}
 
 -- The ticks of either row.
-module _ (ticks others : List ℕ) where
-  abbrev both : ℕ → ℕ
-  both i = bit_or (get_or ticks i 0) (get_or others i 0)
-
-  pub ticks_of_either : Either ticks others (both 0 ∷ both 1 ∷ both 2 ∷ both 3 ∷ [])
-  unfolding row_bit
-  ticks_of_either = record {
-    long = refl;
-    at = λ t h. four_at_lem both t h ∙ bit_or_lem (get_or ticks (t / 64) 0) (get_or others (t / 64) 0) (t % 64);
-  }
+pub ticks_of_either : {ticks others all : List ℕ} → length all ≡ 4 → ((i : ℕ) → i < 4 → get_or all i 0 ≡ bit_or (get_or ticks i 0) (get_or others i 0))
+    → Either ticks others all
+unfolding row_bit
+ticks_of_either {ticks} {others} long words = record {
+  long = long;
+  at = λ t h. ap (λ word. bit_at word (t % 64)) (words (t / 64) (omega arith)) ∙ bit_or_lem (get_or ticks (t / 64) 0) (get_or others (t / 64) 0) (t % 64);
+}

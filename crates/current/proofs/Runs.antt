@@ -1,17 +1,21 @@
 -- The shapes of pulses, and words of changes to which the pulses of a run are added.
 -- Assumes nothing.
-use Rattle.std.proofs.Common.{◌≡◌, ℕ, zero, suc, ◌+◌, ◌-◌, ◌*◌, ◌%◌, ◌<◌, ◌≤◌, Bool, ltb, ◌⊎◌, List, length, get_or, set, sym, refl, ap, ◌∙◌, ap₂, inr, le_refl, zero-add, arith, ltb-false, ltb-true}
-use native.Mathlib.Nat.{mod-add-mod}
+use Rattle.std.proofs.Common.{◌≡◌, ℕ, zero, suc, ◌+◌, ◌-◌, ◌*◌, ◌%◌, ◌<◌, ◌≤◌, Bool, ltb, ◌⊎◌, List, length, get_or, set, sym, refl, ap, ◌∙◌, ap₂, inl, inr, le_refl, zero-add, arith, ltb-false, ltb-true}
+use native.Mathlib.Nat.{eq-or-lt_of_le, mod-add-mod}
+use lib.ListN.{length-set}
+use lib.Seq.{get_or-set_same, get_or-set_other}
+use mathlib.Core.Path.{subst}
+use mathlib.Core.Logic.{⊎_elim}
 use borrow.Table.Steps.{cases}
 use Rattle.laws.specs.Below.{sum_below, sum_between}
 use Rattle.laws.specs.Rewritten.{Rewritten}
-use Rattle.laws.proofs.Rewritten.{rewritten_next, rewritten_to, rewritten_same, rewritten_append}
+use Rattle.laws.proofs.Rewritten.{rewritten_same, rewritten_append}
 use Rattle.block.specs.Limits.{word_limit}
 use Rattle.sheet.specs.Changes.{wrapped_sum, wrapped_difference, changes_of, restored}
 use Rattle.sheet.proofs.Changes.{difference_is, changes_restore, added_same, changes_added, changes_taken}
 use Rattle.current.specs.Levels.{InRange}
 use Rattle.current.specs.Pulse.{pulse, pulse_at}
-use Rattle.current.specs.Runs.{RiseMade, FallMade, ShapeMade, Shaped, level_in, change_in, SumsMade, DifferencesMade, RunDrawn}
+use Rattle.current.specs.Runs.{RiseMade, FallMade, ShapeMade, Shaped, level_in, change_in, Changed, SumsMade, DifferencesMade, RunDrawn}
 use Rattle.current.proofs.Pulses.{pulse_ends, pulse_at_most, pulse_at_ends, pulse_waits, at_start, same_age}
 
 -- The shape of a pulse: its rise and its fall, and nothing where zeros stood.
@@ -36,36 +40,65 @@ pub shape_kept : {needed : Bool} {P r f place : ℕ} {shapes after : List ℕ} �
 shape_kept {needed} {shapes = shapes} shape i outside =
     cases needed (λ b. (shape.made b).rest i outside) (λ b. ap (λ words. get_or words i 0) (shape.kept b))
 
--- Words that a rule makes of what stood there and a number, one by one.
-module _ (rule : ℕ → ℕ → ℕ) where
-  abbrev Made : (ℕ → ℕ) → ℕ → ℕ → List ℕ → List ℕ → Type 0
-  Made number from n words = Rewritten (λ k. rule (get_or words (from + k) 0) (number k)) from n words
+-- Words that are changed one by one.
+module _ (may : ℕ → ℕ → ℕ → ℕ → Type 0) (shapes : List ℕ) (place at : ℕ) where
+  -- What a change may make of the word at a place, by the kth level.
+  abbrev May : ℕ → ℕ → ℕ → Type 0
+  May k word made = may word (get_or shapes (place + k) 0) (get_or shapes (place + k + 1) 0) made
+
+  pub changed_none : (words : List ℕ) → Changed may shapes place at 0 words words
+  changed_none words = record { long = refl; done = λ k h. absurd (omega arith); rest = λ j h. refl }
 
   -- One word more.
-  pub made_next : (number : ℕ → ℕ) (from k at v : ℕ) {words now : List ℕ} → Made number from k words now → at ≡ from + k → at < length words
-      → v ≡ rule (get_or now at 0) (number k) → (next : ℕ) → k + 1 ≡ next → Made number from next words (set now at v)
-  made_next number from k at v {words} {now} w place inside e next n =
-      let old : get_or now at 0 ≡ get_or words (from + k) 0 = rw place (w.rest (from + k) (inr (le_refl (from + k)))) in
-      rewritten_to _ from (k + 1) next words _ n
-      (rewritten_next _ from k at v words now place inside (e ∙ ap (λ x. rule x (number k)) old) w)
+  pub changed_next : (k v : ℕ) {words now : List ℕ} → Changed may shapes place at k words now → at + k < length words
+      → May k (get_or now (at + k) 0) v → Changed may shapes place at (k + 1) words (set now (at + k) v)
+  changed_next k v {words} {now} w inside one = record {
+    long = length-set now (at + k) v ∙ w.long;
+    done = λ j h. ⊎_elim
+        (λ (e : j ≡ k). let placed : get_or (set now (at + k) v) (at + k) 0 ≡ v = get_or-set_same now (at + k) v 0 (omega (arith, w.long)) in
+        let here : May k (get_or words (at + k) 0) (get_or (set now (at + k) v) (at + k) 0) = rw (placed, sym (w.rest (at + k) (inr (le_refl (at + k))))) one in
+        subst (λ i. May i (get_or words (at + i) 0) (get_or (set now (at + k) v) (at + i) 0)) (sym e) here)
+        (λ less. let other : get_or (set now (at + k) v) (at + j) 0 ≡ get_or now (at + j) 0 = get_or-set_other now (at + k) (at + j) v 0 (λ z. omega arith) in
+        rw other (w.done j less))
+        (eq-or-lt_of_le (omega arith));
+    rest = λ j o. ⊎_elim
+        (λ b. get_or-set_other now (at + k) j v 0 (λ z. omega arith) ∙ w.rest j (inl b))
+        (λ b. get_or-set_other now (at + k) j v 0 (λ z. omega arith) ∙ w.rest j (inr (omega arith)))
+        o;
+  }
+
+  -- As words are changed by a rule of what stood there and a number, they are rewritten.
+  pub changed_by : (rule : ℕ → ℕ → ℕ) (number : ℕ → ℕ) (n : ℕ) {words after : List ℕ}
+      → ((k word made : ℕ) → k < n → May k word made → made ≡ rule word (number k)) → Changed may shapes place at n words after
+      → Rewritten (λ k. rule (get_or words (at + k) 0) (number k)) at n words after
+  changed_by rule number n {words} {after} is w = record {
+    long = w.long;
+    done = λ k h. is k (get_or words (at + k) 0) (get_or after (at + k) 0) h (w.done k h);
+    rest = w.rest;
+  }
 
   -- Two stretches, the second right after the first, are one.
-  pub made_append : (number number' : ℕ → ℕ) (from n from' m : ℕ) {words between after : List ℕ} → Made number from n words between
-      → from' ≡ from + n → ((k : ℕ) → k < m → number' k ≡ number (n + k)) → Made number' from' m between after → (next : ℕ) → n + m ≡ next
-      → Made number from next words after
-  made_append number number' from n from' m {words} {between} {after} v place same w next e =
-      rewritten_to _ from (n + m) next words _ e
-      (rewritten_append _ (λ k. rule (get_or between (from' + k) 0) (number' k)) _ from n from' m words between after place
-      (λ k l. refl)
-      (λ k l. let i : from' + k ≡ from + (n + k) = omega arith in
-      ap₂ rule (v.rest (from' + k) (inr (omega arith)) ∙ ap (λ i. get_or words i 0) i) (same k l))
-      v w)
-
--- The changes of a shape from a later place on.
-pub change_later : (shapes : List ℕ) (place n k later : ℕ) → later ≡ place + n → change_in shapes later k ≡ change_in shapes place (n + k)
-change_later shapes place n k later e =
-    ap₂ wrapped_difference (ap (λ j. get_or shapes j 0) (let i : later + (k + 1) ≡ place + (n + k + 1) = omega arith in i))
-    (ap (λ j. get_or shapes j 0) (let i : later + k ≡ place + (n + k) = omega arith in i))
+  pub changed_append : (n m : ℕ) {words between after : List ℕ} → Changed may shapes place at n words between
+      → Changed may shapes (place + n) (at + n) m between after → (next : ℕ) → n + m ≡ next → Changed may shapes place at next words after
+  changed_append n m {words} {between} {after} w v next sum = record {
+    long = v.long ∙ w.long;
+    done = λ k h. cases (ltb k n)
+        (λ t. let b = ltb-true k n t in
+        let same : get_or after (at + k) 0 ≡ get_or between (at + k) 0 = v.rest (at + k) (inl (omega arith)) in
+        rw same (w.done k b))
+        (λ t. let b = ltb-false k n t in
+        let there : k ≡ n + (k - n) = omega arith in
+        let given : get_or between (at + n + (k - n)) 0 ≡ get_or words (at + n + (k - n)) 0 = w.rest (at + n + (k - n)) (inr (omega arith)) in
+        let one : may (get_or words (at + n + (k - n)) 0) (get_or shapes (place + n + (k - n)) 0) (get_or shapes (place + n + (k - n) + 1) 0) (get_or after (at + n + (k - n)) 0)
+        = rw (sym given) (v.done (k - n) (omega arith)) in
+        let i : at + n + (k - n) ≡ at + k = omega arith in
+        let l : place + n + (k - n) ≡ place + k = omega arith in
+        rw (i, l) at one);
+    rest = λ j o. ⊎_elim
+        (λ b. v.rest j (inl (omega arith)) ∙ w.rest j (inl b))
+        (λ b. v.rest j (inr (omega arith)) ∙ w.rest j (inr (omega arith)))
+        o;
+  }
 
 -- What the code's sums and differences are.
 

@@ -1,5 +1,5 @@
 -- The pulses of a run of ticks, as the code adds them to the changes of a sheet in the making.
-use Rattle.std.specs.Prelude.{◌≡◌, ℕ, ◌+◌, ◌<◌, ◌≤◌, Bool, true, false, List, length, slice_index}
+use Rattle.std.specs.Prelude.{◌≡◌, ℕ, ◌+◌, ◌<◌, ◌≤◌, Bool, true, false, List, ◌⊎◌, length, slice_index}
 use Rattle.laws.specs.Below.{sum_between}
 use Rattle.laws.specs.Rewritten.{Rewritten}
 use Rattle.sheet.specs.Changes.{wrapped_sum, wrapped_difference, Added}
@@ -32,6 +32,13 @@ level_in shapes place k = slice_index shapes (place + k)
 
 abbrev pub change_in : List ℕ → ℕ → ℕ → ℕ
 change_in shapes place k = wrapped_difference (level_in shapes place (k + 1)) (level_in shapes place k)
+
+-- Words from a place on, n of which are changed one by one, each by the level of the shapes that belongs to it and the level that follows.
+-- `may` says what such a change may make of a word.
+pub record Changed (may : ℕ → ℕ → ℕ → ℕ → Type 0) (shapes : List ℕ) (place at n : ℕ) (words after : List ℕ) : Type 0 where
+  pub long : length after ≡ length words
+  pub done : (k : ℕ) → k < n → may (slice_index words (at + k)) (slice_index shapes (place + k)) (slice_index shapes (place + k + 1)) (slice_index after (at + k))
+  pub rest : (j : ℕ) → (j < at) ⊎ (at + n ≤ j) → slice_index after j ≡ slice_index words j
 
 -- Words from a place on to which n numbers are added, or from which they are taken away, modulo 2 ^ 64.
 

@@ -7,33 +7,35 @@ ghost use Rattle.current.specs.Runs.{RiseMade, FallMade, ShapeMade};
 use super::level::{Factors, Pulse, level};
 
 // The rise of a pulse, up to before the peak, among the shapes from a place on.
-fn make_rise(shapes: &mut [u16], place: usize, pulse: Pulse, factors: Factors)
-    requires { (length shapes.old ≡ 528) × (place ≤ 264) × Factored pulse.peak pulse.rise pulse.fall factors.rising factors.falling }
+fn make_rise(shapes: &mut [u16; 528], place: usize, pulse: Pulse, factors: Factors)
+    requires { (place ≤ 264) × Factored pulse.peak pulse.rise pulse.fall factors.rising factors.falling }
     ensures { RiseMade pulse.peak pulse.rise pulse.fall place shapes.old shapes.new }
 {
-    let mut k: usize = 0;
-    while k < pulse.rise {
+    for k in 0..pulse.rise {
         shapes[place + k] = level(pulse.peak, factors.rising, k) as u16;
-        k += 1;
     }
 }
 
 // The fall of a pulse, from the peak on.
-fn make_fall(shapes: &mut [u16], place: usize, pulse: Pulse, factors: Factors)
-    requires { (length shapes.old ≡ 528) × (place ≤ 264) × Factored pulse.peak pulse.rise pulse.fall factors.rising factors.falling }
+fn make_fall(shapes: &mut [u16; 528], place: usize, pulse: Pulse, factors: Factors)
+    requires { (place ≤ 264) × Factored pulse.peak pulse.rise pulse.fall factors.rising factors.falling }
     ensures { FallMade pulse.peak pulse.rise pulse.fall place shapes.old shapes.new }
 {
     let end = pulse.rise + pulse.fall;
-    let mut k = pulse.rise;
-    while k < end {
+    for k in pulse.rise..end {
         shapes[place + k] = level(pulse.peak, factors.falling, end - k) as u16;
-        k += 1;
     }
 }
 
 // The shape of a pulse, where it is needed: its level after each number of ticks.
-pub fn make_shape(needed: bool, shapes: &mut [u16], place: usize, pulse: Pulse, factors: Factors)
-    requires { (length shapes.old ≡ 528) × (place ≤ 264) × Factored pulse.peak pulse.rise pulse.fall factors.rising factors.falling }
+pub fn make_shape(
+    needed: bool,
+    shapes: &mut [u16; 528],
+    place: usize,
+    pulse: Pulse,
+    factors: Factors,
+)
+    requires { (place ≤ 264) × Factored pulse.peak pulse.rise pulse.fall factors.rising factors.falling }
     ensures { ShapeMade needed pulse.peak pulse.rise pulse.fall place shapes.old shapes.new }
 {
     if !needed {
