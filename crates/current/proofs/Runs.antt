@@ -12,15 +12,44 @@ use Rattle.laws.specs.Rewritten.{Rewritten}
 use Rattle.laws.proofs.Rewritten.{rewritten_same, rewritten_append}
 use Rattle.block.specs.Limits.{word_limit}
 use Rattle.sheet.specs.Changes.{wrapped_sum, wrapped_difference, changes_of, restored}
-use Rattle.sheet.proofs.Changes.{difference_is, changes_restore, added_same, changes_added, changes_taken}
+use Rattle.sheet.proofs.Changes.{changes_restore, added_same, changes_added, changes_taken}
 use Rattle.current.specs.Levels.{InRange}
 use Rattle.current.specs.Pulse.{pulse, pulse_at}
-use Rattle.current.specs.Runs.{RiseMade, FallMade, ShapeMade, Shaped, level_in, change_in, Changed, SumsMade, DifferencesMade, RunDrawn}
+use Rattle.current.specs.Runs.{Written, ShapeMade, Shaped, Changed, RunDrawn}
 use Rattle.current.proofs.Pulses.{pulse_ends, pulse_at_most, pulse_at_ends, pulse_waits, at_start, same_age}
 
--- The shape of a pulse: its rise and its fall, and nothing where zeros stood.
-pub shape_made : (P r f place : ℕ) {shapes risen after : List ℕ} → RiseMade P r f place shapes risen → FallMade P r f place risen after
-    → Rewritten (pulse P r f) place (r + f) shapes after
+-- Words that are written one by one, as they may be: none yet, and one more.
+
+pub written_none : (may : ℕ → ℕ → Type 0) (from : ℕ) (given : List ℕ) → Written may from 0 given given
+written_none may from given = record { long = refl; done = λ k h. absurd (omega arith); rest = λ j h. refl }
+
+pub written_next : (may : ℕ → ℕ → Type 0) (from k v : ℕ) {given now : List ℕ} → Written may from k given now → from + k < length given → may k v
+    → Written may from (k + 1) given (set now (from + k) v)
+written_next may from k v {given} {now} w inside one = record {
+  long = length-set now (from + k) v ∙ w.long;
+  done = λ j h. ⊎_elim
+      (λ (e : j ≡ k). let placed : get_or (set now (from + k) v) (from + k) 0 ≡ v = get_or-set_same now (from + k) v 0 (omega (arith, w.long)) in
+      subst (λ i. may i (get_or (set now (from + k) v) (from + i) 0)) (sym e) (rw placed one))
+      (λ less. rw (get_or-set_other now (from + k) (from + j) v 0 (λ z. omega arith)) (w.done j less))
+      (eq-or-lt_of_le (omega arith));
+  rest = λ j o. ⊎_elim
+      (λ b. get_or-set_other now (from + k) j v 0 (λ z. omega arith) ∙ w.rest j (inl b))
+      (λ b. get_or-set_other now (from + k) j v 0 (λ z. omega arith) ∙ w.rest j (inr (omega arith)))
+      o;
+}
+
+-- As what may be written is one number each, they are rewritten by it.
+pub written_by : {may : ℕ → ℕ → Type 0} (f : ℕ → ℕ) {from n : ℕ} {given after : List ℕ} → ((k v : ℕ) → k < n → may k v → v ≡ f k)
+    → Written may from n given after → Rewritten f from n given after
+written_by f {from} {n} {given} {after} is w = record {
+  long = w.long;
+  done = λ k h. is k (get_or after (from + k) 0) h (w.done k h);
+  rest = w.rest;
+}
+
+-- The shape of a pulse: its rise, up to before the peak, and its fall, from the peak on.
+pub shape_made : (P r f place : ℕ) {shapes risen after : List ℕ} → Rewritten (pulse P r f) place r shapes risen
+    → Rewritten (λ k. pulse P r f (r + k)) (place + r) f risen after → Rewritten (pulse P r f) place (r + f) shapes after
 shape_made P r f place rise fall =
     rewritten_append (pulse P r f) (λ k. pulse P r f (r + k)) (pulse P r f) place r (place + r) f _ _ _ refl (λ k l. refl) (λ k l. refl) rise fall
 
@@ -42,40 +71,11 @@ shape_kept {needed} {shapes = shapes} shape i outside =
 
 -- Words that are changed one by one.
 module _ (may : ℕ → ℕ → ℕ → ℕ → Type 0) (shapes : List ℕ) (place at : ℕ) where
-  -- What a change may make of the word at a place, by the kth level.
-  abbrev May : ℕ → ℕ → ℕ → Type 0
-  May k word made = may word (get_or shapes (place + k) 0) (get_or shapes (place + k + 1) 0) made
-
-  pub changed_none : (words : List ℕ) → Changed may shapes place at 0 words words
-  changed_none words = record { long = refl; done = λ k h. absurd (omega arith); rest = λ j h. refl }
-
   -- One word more.
   pub changed_next : (k v : ℕ) {words now : List ℕ} → Changed may shapes place at k words now → at + k < length words
-      → May k (get_or now (at + k) 0) v → Changed may shapes place at (k + 1) words (set now (at + k) v)
-  changed_next k v {words} {now} w inside one = record {
-    long = length-set now (at + k) v ∙ w.long;
-    done = λ j h. ⊎_elim
-        (λ (e : j ≡ k). let placed : get_or (set now (at + k) v) (at + k) 0 ≡ v = get_or-set_same now (at + k) v 0 (omega (arith, w.long)) in
-        let here : May k (get_or words (at + k) 0) (get_or (set now (at + k) v) (at + k) 0) = rw (placed, sym (w.rest (at + k) (inr (le_refl (at + k))))) one in
-        subst (λ i. May i (get_or words (at + i) 0) (get_or (set now (at + k) v) (at + i) 0)) (sym e) here)
-        (λ less. let other : get_or (set now (at + k) v) (at + j) 0 ≡ get_or now (at + j) 0 = get_or-set_other now (at + k) (at + j) v 0 (λ z. omega arith) in
-        rw other (w.done j less))
-        (eq-or-lt_of_le (omega arith));
-    rest = λ j o. ⊎_elim
-        (λ b. get_or-set_other now (at + k) j v 0 (λ z. omega arith) ∙ w.rest j (inl b))
-        (λ b. get_or-set_other now (at + k) j v 0 (λ z. omega arith) ∙ w.rest j (inr (omega arith)))
-        o;
-  }
-
-  -- As words are changed by a rule of what stood there and a number, they are rewritten.
-  pub changed_by : (rule : ℕ → ℕ → ℕ) (number : ℕ → ℕ) (n : ℕ) {words after : List ℕ}
-      → ((k word made : ℕ) → k < n → May k word made → made ≡ rule word (number k)) → Changed may shapes place at n words after
-      → Rewritten (λ k. rule (get_or words (at + k) 0) (number k)) at n words after
-  changed_by rule number n {words} {after} is w = record {
-    long = w.long;
-    done = λ k h. is k (get_or words (at + k) 0) (get_or after (at + k) 0) h (w.done k h);
-    rest = w.rest;
-  }
+      → may (get_or now (at + k) 0) (get_or shapes (place + k) 0) (get_or shapes (place + k + 1) 0) v
+      → Changed may shapes place at (k + 1) words (set now (at + k) v)
+  changed_next k v w inside one = written_next _ at k v w inside (rw (sym (w.rest (at + k) (inr (le_refl (at + k))))) one)
 
   -- Two stretches, the second right after the first, are one.
   pub changed_append : (n m : ℕ) {words between after : List ℕ} → Changed may shapes place at n words between
@@ -87,7 +87,6 @@ module _ (may : ℕ → ℕ → ℕ → ℕ → Type 0) (shapes : List ℕ) (pla
         let same : get_or after (at + k) 0 ≡ get_or between (at + k) 0 = v.rest (at + k) (inl (omega arith)) in
         rw same (w.done k b))
         (λ t. let b = ltb-false k n t in
-        let there : k ≡ n + (k - n) = omega arith in
         let given : get_or between (at + n + (k - n)) 0 ≡ get_or words (at + n + (k - n)) 0 = w.rest (at + n + (k - n)) (inr (omega arith)) in
         let one : may (get_or words (at + n + (k - n)) 0) (get_or shapes (place + n + (k - n)) 0) (get_or shapes (place + n + (k - n) + 1) 0) (get_or after (at + n + (k - n)) 0)
         = rw (sym given) (v.done (k - n) (omega arith)) in
@@ -100,20 +99,21 @@ module _ (may : ℕ → ℕ → ℕ → ℕ → Type 0) (shapes : List ℕ) (pla
         o;
   }
 
--- What the code's sums and differences are.
+-- The level of the shapes k ticks from a place on, and its change to the level of the next tick.
 
-pub sum_taken : (word : ℕ) {number level result : ℕ} → number ≡ level → result ≡ (word + number) % word_limit → result ≡ wrapped_sum word level
-unfolding wrapped_sum
-sum_taken word e r = r ∙ ap (λ x. (word + x) % word_limit) e
+abbrev pub level_in : List ℕ → ℕ → ℕ → ℕ
+level_in shapes place k = get_or shapes (place + k) 0
 
-pub difference_taken : {word number level result : ℕ} → number ≡ level → number < 65536 → result < word_limit → (result + number) % word_limit ≡ word
-    → result ≡ wrapped_difference word level
-difference_taken {word} {number} {level} {result} e small fits r =
-    difference_is word number result (omega arith) fits r ∙ ap (wrapped_difference word) e
+abbrev pub change_in : List ℕ → ℕ → ℕ → ℕ
+change_in shapes place k = wrapped_difference (get_or shapes (place + k + 1) 0) (level_in shapes place k)
 
-pub change_taken : {next following number level result : ℕ} → next ≡ following → number ≡ level → number < 65536 → result < word_limit
-    → (result + number) % word_limit ≡ next → result ≡ wrapped_difference following level
-change_taken {level = level} n e small fits r = difference_taken e small fits r ∙ ap (λ x. wrapped_difference x level) n
+-- Words from a place on to which n numbers are added, or from which they are taken away, modulo 2 ^ 64.
+
+abbrev SumsMade : (ℕ → ℕ) → ℕ → ℕ → List ℕ → List ℕ → Type 0
+SumsMade number at n words = Rewritten (λ k. wrapped_sum (get_or words (at + k) 0) (number k)) at n words
+
+abbrev DifferencesMade : (ℕ → ℕ) → ℕ → ℕ → List ℕ → List ℕ → Type 0
+DifferencesMade number at n words = Rewritten (λ k. wrapped_difference (get_or words (at + k) 0) (number k)) at n words
 
 -- Over the ticks up to a tick, a pulse sums to what the pulse that starts a tick later does, and its own level there. So the sum of the
 -- pulses of a run at a tick is the difference of two such sums.
@@ -172,7 +172,9 @@ module _ {P r f place contact first end n : ℕ} {shapes : List ℕ} (range : In
   change_at k h =
       let next : first + (k + 1) ≡ suc (first + k) = omega arith in
       let now : suc first + k ≡ suc (first + k) = omega arith in
-      ap₂ wrapped_difference (level_at first (k + 1) (omega arith) ∙ ap (pulse_from first) next) (level_at first k (omega arith))
+      let follows : place + k + 1 ≡ place + (k + 1) = omega arith in
+      ap₂ wrapped_difference (ap (λ j. get_or shapes j 0) follows ∙ level_at first (k + 1) (omega arith) ∙ ap (pulse_from first) next)
+      (level_at first k (omega arith))
       ∙ ap changes (sym now)
 
   pub pulse_drawn : {words after : List ℕ} → end ≡ first + 1 → SumsMade (change_in shapes place) (512 * contact + end) n words after

@@ -1,11 +1,13 @@
 -- `current::draw::change_words` meets its contract.
 -- Assumes nothing.
 use Rattle.std.proofs.Common.{◌*◌, arith}
-use Rattle.current.proofs.Runs.{changed_none, changed_append}
+use Rattle.current.proofs.Runs.{written_none, changed_append}
 use Rattle.current.proofs.draw.change_words.Goals as goal
 
 pub loop-n-init : goal.loop-n-init
-loop-n-init g c = changed_none _ _ _ _ _
+loop-n-init g c = written_none _ _ _
 
 pub loop-n-preserved : goal.loop-n-preserved
-loop-n-preserved g c = let loop = c.loop-n in changed_append _ _ _ _ (8 * loop.n) 8 loop.invariant c.change_eight.ensures _ (omega arith)
+loop-n-preserved g c =
+    let loop = c.loop-n in
+    changed_append (goal.F-post g c.args.change) c.args.shapes.now c.args.place c.args.at (8 * loop.n) 8 loop.invariant c.change_eight.ensures _ (omega arith)
