@@ -34,7 +34,7 @@ fn change_words<F: Fn(Word, u16, u16) -> Word>(
     eights: usize,
     change: F,
 )
-    requires { (at + 8 * eights ≤ length words.old) × (length words.old ≡ 8192) × (place + 8 * eights < 528) × F.IsAlwaysCallable change }
+    requires { (at + 8 * eights ≤ length words.old) × (place + 8 * eights < 528) × F.IsAlwaysCallable change }
     ensures { Changed (F.post change) shapes.now place at (8 * eights) words.old words.new }
 {
     for n in 0..eights {

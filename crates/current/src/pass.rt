@@ -1,6 +1,7 @@
 // One pass over a gate's ticks for both edges, a run of ticks at each step. Both edges have the same rise and fall, so that of the pulses
 // that one tick allows the one with the greater peak is nowhere below the other: a tick has one peak.
 ghost use Rattle.std.specs.Prelude.{◌≡◌, ◌<◌, ◌≤◌, length, replicate};
+ghost use Rattle.block.specs.View.{FieldsFit};
 ghost use Rattle.current.specs.Edges.{PulseFields, pulse_of, place_of, GateEdges, ShapesMade, Passed};
 
 use super::edge::Peak;
@@ -12,7 +13,7 @@ use sheet::Word;
 
 // The pulse of a peak.
 fn pulse_of(gate: Gate, peak: Peak) -> Pulse
-    requires { PulseFields gate }
+    requires { FieldsFit gate }
     ensures { result ≡ pulse_of gate peak }
 {
     Pulse {

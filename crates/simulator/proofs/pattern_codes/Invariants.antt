@@ -8,7 +8,4 @@ use Rattle.excitation.specs.Excitation.{excitation_of}
 use Rattle.simulator.proofs.pattern_codes.Given as goal
 
 abbrev pub invariant-loop-net : goal.invariant-loop-net
-invariant-loop-net l = (l.net ≤ l.inputs) × Rewritten (λ net. code (single (excitation_of (get_or l.pattern net 0)))) 0 l.net l.initial.codes l.codes
-
-abbrev pub decreases-loop-net : goal.decreases-loop-net
-decreases-loop-net l = l.inputs - l.net
+invariant-loop-net l = Rewritten (λ net. code (single (excitation_of (get_or l.pattern net 0)))) 0 l.net l.initial.codes l.codes
