@@ -1,21 +1,17 @@
--- One pass over a gate's ticks: which run comes next, and that a step over it adds the pulses which its ticks allow.
+-- One pass over a gate's ticks: that a step over the next run adds the pulses which its ticks allow.
 -- Assumes nothing.
 use Rattle.std.proofs.Common.{◌≡◌, ℕ, ◌+◌, ◌-◌, ◌<◌, ◌≤◌, Bool, true, false, not, ◌&&◌, List, length, replicate, sym, refl, ap, ◌∙◌, inl, inr, le_refl, arith}
 use mathlib.Core.Bool.{and-true, false≢true}
-use borrow.Author.Tests.{not-true}
 use borrow.Table.Steps.{cases}
 use Rattle.laws.specs.Below.{sum_between}
 use Rattle.laws.proofs.Below.{sum_same, between_append, between_none, between_same}
 use Rattle.laws.proofs.Lists.{replicate_at}
-use Rattle.laws.proofs.Tests.{and_right, or_fails, or_cases}
 use Rattle.bits.specs.Bits.{row_bit}
 use Rattle.block.specs.Limits.{peak_limit}
 use Rattle.block.specs.declared.Gate.{Gate}
 use Rattle.sheet.proofs.Changes.{added_none, added_same, added_both}
-use Rattle.runs.specs.Rows.{NextAt}
-use Rattle.runs.proofs.Walk.{run_long}
 use Rattle.current.specs.Current.{edge_pulse}
-use Rattle.current.specs.Edges.{of_peak, peak_of, pulse_of, PulseFields, GateEdges, pulse_by_rows, Passed, NoTick, Without, Either, TicksByPeak, NextRun, NoRun, place_of, ShapesMade}
+use Rattle.current.specs.Edges.{of_peak, peak_of, pulse_of, PulseFields, GateEdges, pulse_by_rows, Passed, NoTick, Without, TicksByPeak, NextRun, NoRun, place_of, ShapesMade}
 use Rattle.current.specs.declared.edge.Peak.{Peak}
 use Rattle.current.specs.declared.edge.Peak.TheVariants.{Greater, Lower}
 use Rattle.current.specs.declared.edge.Run.{Run}
@@ -60,44 +56,6 @@ pub place_low : (peak : Peak) → place_of peak ≤ 264
 unfolding place_of
 place_low Greater = omega arith
 place_low Lower = omega arith
-
--- The ticks by their peak, from the rows of both edges.
-pub by_peak : {greater lower alone all : List ℕ} → length greater ≡ 4 → Without lower greater alone → Either greater alone all
-    → TicksByPeak greater alone all
-by_peak {greater} {lower} {alone} long without either = record {
-  greater_long = long;
-  lower_long = without.long;
-  either = either;
-  apart = λ x h held. not-true (row_bit greater x) (and_right (row_bit lower x) _ (sym (without.at x h) ∙ held));
-}
-
--- The next run, from the next tick of all.
-module _ {greater lower all : List ℕ} {from first : ℕ} (ticks : TicksByPeak greater lower all) (found : NextAt true all from first) where
-  before_run : (x : ℕ) → from ≤ x → x < first → (row_bit greater x ≡ false) × (row_bit lower x ≡ false)
-  before_run x low h =
-      let high = found.high in
-      or_fails (row_bit greater x) (row_bit lower x) (sym (ticks.either.at x (omega arith)) ∙ found.other x low h)
-
-  pub no_run : first ≡ 256 → NoRun greater lower from
-  no_run past x low h = before_run x low (omega arith)
-
-  -- The run that starts there with the greater peak or the lower.
-  pub run_next : (peak : Peak) {end : ℕ} → first < 256 → row_bit (of_peak peak greater lower) first ≡ true → NextAt false (of_peak peak greater lower) first end
-      → NextRun greater lower from (record { first = first; end = end; peak = peak })
-  run_next peak {end} in_time held until = record {
-    low = found.low;
-    some = run_long (of_peak peak greater lower) first end in_time held until;
-    high = until.high;
-    before = before_run;
-    inside = until.other;
-  }
-
-  -- A tick that has a peak and not the greater one has the lower.
-  pub lower_held : first < 256 → row_bit greater first ≡ false → row_bit lower first ≡ true
-  lower_held in_time none =
-      or_cases (row_bit greater first) (row_bit lower first) (sym (ticks.either.at first in_time) ∙ found.found in_time)
-      (λ held. absurd (false≢true (sym none ∙ held)))
-      (λ held. held)
 
 -- A row with a tick is one in which the code finds some.
 tick_found : (some : Bool) (ticks : List ℕ) → (some ≡ false → NoTick ticks) → (x : ℕ) → x < 256 → row_bit ticks x ≡ true → some ≡ true

@@ -1,10 +1,7 @@
 -- The shapes of pulses, and words of changes to which the pulses of a run are added.
 -- Assumes nothing.
-use Rattle.std.proofs.Common.{◌≡◌, ℕ, zero, suc, ◌+◌, ◌-◌, ◌*◌, ◌%◌, ◌<◌, ◌≤◌, Bool, ltb, ◌⊎◌, List, length, get_or, set, sym, refl, ap, ◌∙◌, ap₂, inl, inr, le_refl, zero-add, arith, ltb-false, ltb-true}
-use native.Mathlib.Nat.{eq-or-lt_of_le, mod-add-mod}
-use lib.ListN.{length-set}
-use lib.Seq.{get_or-set_same, get_or-set_other}
-use mathlib.Core.Path.{subst}
+use Rattle.std.proofs.Common.{◌≡◌, ℕ, zero, suc, ◌+◌, ◌-◌, ◌*◌, ◌%◌, ◌<◌, ◌≤◌, Bool, ltb, ◌⊎◌, List, length, get_or, sym, refl, ap, ◌∙◌, ap₂, inl, inr, zero-add, arith, ltb-false, ltb-true}
+use native.Mathlib.Nat.{mod-add-mod}
 use mathlib.Core.Logic.{⊎_elim}
 use borrow.Table.Steps.{cases}
 use Rattle.laws.specs.Below.{sum_below, sum_between}
@@ -18,27 +15,7 @@ use Rattle.current.specs.Pulse.{pulse, pulse_at}
 use Rattle.current.specs.Runs.{Written, ShapeMade, Shaped, Changed, RunDrawn}
 use Rattle.current.proofs.Pulses.{pulse_ends, pulse_at_most, pulse_at_ends, pulse_waits, at_start, same_age}
 
--- Words that are written one by one, as they may be: none yet, and one more.
-
-pub written_none : (may : ℕ → ℕ → Type 0) (from : ℕ) (given : List ℕ) → Written may from 0 given given
-written_none may from given = record { long = refl; done = λ k h. absurd (omega arith); rest = λ j h. refl }
-
-pub written_next : (may : ℕ → ℕ → Type 0) (from k v : ℕ) {given now : List ℕ} → Written may from k given now → from + k < length given → may k v
-    → Written may from (k + 1) given (set now (from + k) v)
-written_next may from k v {given} {now} w inside one = record {
-  long = length-set now (from + k) v ∙ w.long;
-  done = λ j h. ⊎_elim
-      (λ (e : j ≡ k). let placed : get_or (set now (from + k) v) (from + k) 0 ≡ v = get_or-set_same now (from + k) v 0 (omega (arith, w.long)) in
-      subst (λ i. may i (get_or (set now (from + k) v) (from + i) 0)) (sym e) (rw placed one))
-      (λ less. rw (get_or-set_other now (from + k) (from + j) v 0 (λ z. omega arith)) (w.done j less))
-      (eq-or-lt_of_le (omega arith));
-  rest = λ j o. ⊎_elim
-      (λ b. get_or-set_other now (from + k) j v 0 (λ z. omega arith) ∙ w.rest j (inl b))
-      (λ b. get_or-set_other now (from + k) j v 0 (λ z. omega arith) ∙ w.rest j (inr (omega arith)))
-      o;
-}
-
--- As what may be written is one number each, they are rewritten by it.
+-- Words that are written one by one, as they may be: where that is one number each, they are rewritten by it.
 pub written_by : {may : ℕ → ℕ → Type 0} (f : ℕ → ℕ) {from n : ℕ} {given after : List ℕ} → ((k v : ℕ) → k < n → may k v → v ≡ f k)
     → Written may from n given after → Rewritten f from n given after
 written_by f {from} {n} {given} {after} is w = record {
@@ -69,15 +46,8 @@ pub shape_kept : {needed : Bool} {P r f place : ℕ} {shapes after : List ℕ} �
 shape_kept {needed} {shapes = shapes} shape i outside =
     cases needed (λ b. (shape.made b).rest i outside) (λ b. ap (λ words. get_or words i 0) (shape.kept b))
 
--- Words that are changed one by one.
+-- Words that are changed one by one: two stretches, the second right after the first, are one.
 module _ (may : ℕ → ℕ → ℕ → ℕ → Type 0) (shapes : List ℕ) (place at : ℕ) where
-  -- One word more.
-  pub changed_next : (k v : ℕ) {words now : List ℕ} → Changed may shapes place at k words now → at + k < length words
-      → may (get_or now (at + k) 0) (get_or shapes (place + k) 0) (get_or shapes (place + k + 1) 0) v
-      → Changed may shapes place at (k + 1) words (set now (at + k) v)
-  changed_next k v w inside one = written_next _ at k v w inside (rw (sym (w.rest (at + k) (inr (le_refl (at + k))))) one)
-
-  -- Two stretches, the second right after the first, are one.
   pub changed_append : (n m : ℕ) {words between after : List ℕ} → Changed may shapes place at n words between
       → Changed may shapes (place + n) (at + n) m between after → (next : ℕ) → n + m ≡ next → Changed may shapes place at next words after
   changed_append n m {words} {between} {after} w v next sum = record {

@@ -2,7 +2,7 @@
 use Rattle.std.specs.Prelude.{◌≡◌, ℕ, ◌+◌, ◌<◌, ◌≤◌, Bool, true, false, List, ◌⊎◌, length, slice_index}
 use Rattle.laws.specs.Below.{sum_between}
 use Rattle.laws.specs.Rewritten.{Rewritten}
-use Rattle.sheet.specs.Changes.{wrapped_sum, wrapped_difference, Added}
+use Rattle.sheet.specs.Changes.{Added}
 use Rattle.current.specs.Pulse.{pulse, pulse_at}
 
 -- Words of which the n from a place on are written one by one. `may` says what may be written as the kth of them.

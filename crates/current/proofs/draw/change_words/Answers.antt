@@ -1,11 +1,8 @@
 -- `current::draw::change_words` meets its contract.
 -- Assumes nothing.
 use Rattle.std.proofs.Common.{◌*◌, arith}
-use Rattle.current.proofs.Runs.{written_none, changed_append}
+use Rattle.current.proofs.Runs.{changed_append}
 use Rattle.current.proofs.draw.change_words.Goals as goal
-
-pub loop-n-init : goal.loop-n-init
-loop-n-init g c = written_none _ _ _
 
 pub loop-n-preserved : goal.loop-n-preserved
 loop-n-preserved g c =

@@ -1,8 +1,8 @@
 -- `current::draw::draw_run` meets its contract.
 -- Assumes nothing.
-use Rattle.std.proofs.Common.{◌+◌, ◌*◌, get_or, arith, rules}
+use Rattle.std.proofs.Common.{arith, rules}
 use Rattle.sheet.specs.Changes.{wrapped_sum, wrapped_difference}
-use Rattle.current.proofs.Runs.{level_in, change_in, written_by, pulse_drawn, run_drawn}
+use Rattle.current.proofs.Runs.{written_by, pulse_drawn, run_drawn}
 use Rattle.current.proofs.draw.draw_run.Goals as goal
 
 pub returns-then-first-last : goal.returns-then-first-last

@@ -7,9 +7,6 @@ use Rattle.current.proofs.Pulses.{rise_level, fall_level, pulse_most}
 use Rattle.current.proofs.Runs.{written_by, shape_made}
 use Rattle.current.proofs.shape.make_shape.Goals as goal
 
-pub returns-then-not-needed : goal.returns-then-not-needed
-returns-then-not-needed c = record { long = refl; made = λ e. absurd (false≢true (sym c.if-not-needed.true ∙ e)); kept = λ e. refl }
-
 pub write_steps-requires : goal.write_steps-requires
 write_steps-requires c =
     let ready = c.requires.1 in
