@@ -11,14 +11,20 @@ fn write_steps<F: Fn(usize) -> u16>(shapes: &mut [u16; 528], from: usize, steps:
     requires { (from + steps ≤ 528) × ((k : ℕ) → k < steps → F.pre at k) }
     ensures { Written (F.post at) from steps shapes.old shapes.new }
 {
-    for k in 0..steps {
-        shapes[from + k] = at(k);
+    for (k, word) in shapes[from..from + steps].iter_mut().enumerate() {
+        *word = at(k);
     }
 }
 
 // The shape of a pulse, where it is needed: its level after each number of ticks, in its rise, up to before the peak, and in its fall, from
 // the peak on.
-pub fn make_shape(needed: bool, shapes: &mut [u16; 528], place: usize, pulse: Pulse, factors: Factors)
+pub fn make_shape(
+    needed: bool,
+    shapes: &mut [u16; 528],
+    place: usize,
+    pulse: Pulse,
+    factors: Factors,
+)
     requires { (place ≤ 264) × Factored pulse.peak pulse.rise pulse.fall factors.rising factors.falling }
     ensures { ShapeMade needed pulse.peak pulse.rise pulse.fall place shapes.old shapes.new }
 {

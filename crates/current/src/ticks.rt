@@ -18,7 +18,7 @@ pub struct Ticks {
 pub fn has_tick(ticks: &[u64; 4]) -> bool
     ensures { result ≡ false → NoTick ticks.now }
 {
-    ticks[0] | ticks[1] | ticks[2] | ticks[3] != 0
+    *ticks != [0; 4]
 }
 
 // Whether tick t, below 256, is a tick of a row.

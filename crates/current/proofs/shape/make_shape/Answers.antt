@@ -14,8 +14,8 @@ write_steps-requires c =
     let high = range.peak_high in (
       omega (arith, c.requires.0, range.rise_high),
       λ k h. let few : k < 128 = omega (arith, range.rise_high) in
-      let fits : level_by c.args.pulse.peak c.args.factors.rising k < 65536 = omega (arith, rise_level ready k h refl, pulse_most range k, high) in
-      search rules,
+          let fits : level_by c.args.pulse.peak c.args.factors.rising k < 65536 = omega (arith, rise_level ready k h refl, pulse_most range k, high) in
+          search rules,
     )
 
 pub write_steps-requires-2 : goal.write_steps-requires-2
@@ -25,10 +25,10 @@ write_steps-requires-2 c =
     let high = range.peak_high in (
       omega (arith, c.requires.0, range.rise_high, range.fall_high),
       λ k h. let steps = c.args.pulse.fall - k in
-      let few : steps < 128 = omega (arith, range.fall_high) in
-      let fits : level_by c.args.pulse.peak c.args.factors.falling steps < 65536 =
-      omega (arith, fall_level ready k (omega arith) refl, pulse_most range (c.args.pulse.rise + k), high) in
-      search rules,
+          let few : steps < 128 = omega (arith, range.fall_high) in
+          let fits : level_by c.args.pulse.peak c.args.factors.falling steps < 65536 =
+          omega (arith, fall_level ready k (omega arith) refl, pulse_most range (c.args.pulse.rise + k), high) in
+          search rules,
     )
 
 pub returns : goal.returns
