@@ -59,6 +59,8 @@ fn make_shapes(gate: Gate, ticks: &Ticks, shapes: &mut [u16; 528])
 }
 
 // One step of the pass: the next run is drawn. The answer is the tick up to which the sets are passed then.
+// Form kept: the sheet is a slice, its length in the contracts down to `draw_run`, since `gate::draw_gate` takes one, whose contract may
+// not change.
 fn pass_run(
     sheet: &mut [Word],
     gate: Gate,

@@ -1,6 +1,6 @@
 -- `evaluation::draw` meets its contract. The loop's invariant: the nets passed are evaluated, and the settling tick is theirs.
 -- Assumes nothing.
-use Prim.Native.Nat.{◌-◌, ◌≤◌, ◌<◌}
+use Prim.Native.Nat.{◌<◌}
 use mathlib.Core.Path.{◌≡◌}
 use lib.ListN.{length}
 use Rattle.laws.specs.Below.{max_below}

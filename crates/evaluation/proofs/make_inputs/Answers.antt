@@ -1,6 +1,5 @@
 -- `evaluation::make_inputs` meets its contract.
 -- Assumes nothing.
-use mathlib.Core.Path.{◌≡◌}
 use native.Mathlib.Omega.{arith}
 use Rattle.evaluation.proofs.Rows.{has_row, inputs_none, inputs_next}
 use Rattle.evaluation.proofs.make_inputs.Goals as goal

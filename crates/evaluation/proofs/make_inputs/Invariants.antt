@@ -1,6 +1,5 @@
 -- `evaluation::make_inputs` meets its contract.
 -- Assumes nothing.
-use Prim.Native.Nat.{◌-◌, ◌≤◌}
 use Rattle.evaluation.specs.Evaluation.{InputsMade}
 use Rattle.evaluation.proofs.make_inputs.Given as goal
 

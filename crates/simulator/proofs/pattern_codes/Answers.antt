@@ -1,12 +1,9 @@
 -- `simulator::pattern_codes` meets its contract.
 -- Assumes nothing.
-use mathlib.Core.Path.{◌≡◌, ap, ◌∙◌}
+use mathlib.Core.Path.{ap, ◌∙◌}
 use native.Mathlib.Omega.{arith}
-use lib.ListN.{get_or}
-use Rattle.laws.specs.Rewritten.{Rewritten}
 use Rattle.laws.proofs.Rewritten.{rewritten_none, rewritten_next, rewritten_to, rewritten_first}
 use Rattle.excitation.specs.UncertaintySet.{code, single}
-use Rattle.excitation.specs.Excitation.{excitation_of}
 use Rattle.simulator.proofs.pattern_codes.Goals as goal
 
 pub loop-net-init : goal.loop-net-init

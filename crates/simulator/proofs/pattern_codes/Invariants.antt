@@ -1,6 +1,5 @@
 -- `simulator::pattern_codes` meets its contract.
 -- Assumes nothing.
-use Prim.Native.Nat.{◌-◌, ◌≤◌}
 use lib.ListN.{get_or}
 use Rattle.laws.specs.Rewritten.{Rewritten}
 use Rattle.excitation.specs.UncertaintySet.{code, single}
