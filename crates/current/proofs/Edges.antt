@@ -1,21 +1,19 @@
--- One pass over a gate's ticks: which run comes next, and that a step over it adds the pulses which its ticks allow.
+-- One pass over a gate's ticks: that a step over the next run adds the pulses which its ticks allow.
 -- Assumes nothing.
-use Rattle.std.proofs.Common.{◌≡◌, ℕ, ◌+◌, ◌-◌, ◌<◌, ◌≤◌, Bool, true, false, cond, not, ◌&&◌, List, length, replicate, sym, refl, ap, ◌∙◌, inl, inr, le_refl, arith}
+use Rattle.std.proofs.Common.{◌≡◌, ℕ, ◌+◌, ◌-◌, ◌<◌, ◌≤◌, Bool, true, false, not, ◌&&◌, List, length, replicate, sym, refl, ap, ◌∙◌, inl, inr, le_refl, arith}
 use mathlib.Core.Bool.{and-true, false≢true}
-use borrow.Author.Tests.{not-true}
 use borrow.Table.Steps.{cases}
 use Rattle.laws.specs.Below.{sum_between}
 use Rattle.laws.proofs.Below.{sum_same, between_append, between_none, between_same}
 use Rattle.laws.proofs.Lists.{replicate_at}
-use Rattle.laws.proofs.Tests.{and_right, or_fails, or_cases}
 use Rattle.bits.specs.Bits.{row_bit}
 use Rattle.block.specs.Limits.{peak_limit}
 use Rattle.block.specs.declared.Gate.{Gate}
 use Rattle.sheet.proofs.Changes.{added_none, added_same, added_both}
-use Rattle.runs.specs.Rows.{NextAt}
-use Rattle.runs.proofs.Walk.{run_long}
 use Rattle.current.specs.Current.{edge_pulse}
-use Rattle.current.specs.Edges.{peak_of, pulse_of, PulseFields, GateEdges, pulse_by_rows, Passed, NoTick, Without, Either, TicksByPeak, NextRun, place_of, ShapesMade}
+use Rattle.current.specs.Edges.{of_peak, peak_of, pulse_of, PulseFields, GateEdges, pulse_by_rows, Passed, NoTick, Without, TicksByPeak, NextRun, NoRun, place_of, ShapesMade}
+use Rattle.current.specs.declared.edge.Peak.{Peak}
+use Rattle.current.specs.declared.edge.Peak.TheVariants.{Greater, Lower}
 use Rattle.current.specs.declared.edge.Run.{Run}
 use Rattle.current.specs.declared.level.Pulse.{Pulse}
 use Rattle.current.specs.Levels.{InRange, factor_of, Factored}
@@ -37,77 +35,27 @@ module _ {gate : Gate} (fields : PulseFields gate) where
         fall_high = (let fall = ranges.fall_high in omega arith);
       }
 
-  peak_high : (is_greater : Bool) → peak_of gate is_greater < peak_limit
+  peak_high : (peak : Peak) → peak_of gate peak < peak_limit
   unfolding peak_of
-  peak_high true = let lh_high = fields.fits.peak_lh_high in let hl_high = fields.fits.peak_hl_high in omega arith
-  peak_high false = let lh_high = fields.fits.peak_lh_high in let hl_high = fields.fits.peak_hl_high in omega arith
+  peak_high Greater = let lh_high = fields.fits.peak_lh_high in let hl_high = fields.fits.peak_hl_high in omega arith
+  peak_high Lower = let lh_high = fields.fits.peak_lh_high in let hl_high = fields.fits.peak_hl_high in omega arith
 
-  pub in_range : (is_greater : Bool) → InRange (peak_of gate is_greater) gate.rise gate.fall
-  in_range is_greater = range_of (peak_of gate is_greater) (peak_high is_greater)
+  pub in_range : (peak : Peak) → InRange (peak_of gate peak) gate.rise gate.fall
+  in_range peak = range_of (peak_of gate peak) (peak_high peak)
 
-  pub factored : (is_greater : Bool) {pulse : Pulse} {rising falling : ℕ} → pulse ≡ pulse_of gate is_greater → rising ≡ factor_of gate.rise
+  pub factored : (peak : Peak) {pulse : Pulse} {rising falling : ℕ} → pulse ≡ pulse_of gate peak → rising ≡ factor_of gate.rise
       → falling ≡ factor_of gate.fall → Factored pulse.peak pulse.rise pulse.fall rising falling
-  factored is_greater e rise fall = rw e (record { range = in_range is_greater; rising_by = rise; falling_by = fall })
+  factored peak e rise fall = rw e (record { range = in_range peak; rising_by = rise; falling_by = fall })
 
-  sorted : peak_of gate false ≤ peak_of gate true
+  sorted : peak_of gate Lower ≤ peak_of gate Greater
   unfolding peak_of
   sorted = omega arith
 
 -- Both places leave room for a whole shape.
-pub place_low : (is_greater : Bool) → place_of is_greater ≤ 264
+pub place_low : (peak : Peak) → place_of peak ≤ 264
 unfolding place_of
-place_low true = omega arith
-place_low false = omega arith
-
--- The ticks by their peak, from the rows of both edges.
-pub by_peak : {greater lower alone all : List ℕ} → length greater ≡ 4 → Without lower greater alone → Either greater alone all
-    → TicksByPeak greater alone all
-by_peak {greater} {lower} {alone} long without either = record {
-  greater_long = long;
-  lower_long = without.long;
-  either = either;
-  apart = λ x h held. not-true (row_bit greater x) (and_right (row_bit lower x) _ (sym (without.at x h) ∙ held));
-}
-
--- The next run, from the next tick of all.
-module _ {greater lower all : List ℕ} {from first : ℕ} (ticks : TicksByPeak greater lower all) (found : NextAt true all from first) where
-  before_run : (x : ℕ) → from ≤ x → x < first → (row_bit greater x ≡ false) × (row_bit lower x ≡ false)
-  before_run x low h =
-      let high = found.high in
-      or_fails (row_bit greater x) (row_bit lower x) (sym (ticks.either.at x (omega arith)) ∙ found.other x low h)
-
-  pub no_run : first ≡ 256 → NextRun greater lower from (record { first = first; end = 256; greater = true })
-  no_run past = record {
-    low = found.low;
-    in_time = found.high;
-    some = λ h. absurd (omega arith);
-    high = omega arith;
-    before = before_run;
-    inside = λ x low h. absurd (omega arith);
-  }
-
-  -- The run that starts there with the greater peak or the lower.
-  pub run_next : (is_greater : Bool) {end : ℕ} → first < 256 → row_bit (cond is_greater greater lower) first ≡ true → NextAt false (cond is_greater greater lower) first end
-      → NextRun greater lower from (record { first = first; end = end; greater = is_greater })
-  run_next is_greater {end} in_time held until = record {
-    low = found.low;
-    in_time = found.high;
-    some = λ h. run_long (cond is_greater greater lower) first end in_time held until;
-    high = until.high;
-    before = before_run;
-    inside = until.other;
-  }
-
-  -- A tick that has a peak and not the greater one has the lower.
-  pub lower_held : first < 256 → row_bit greater first ≡ false → row_bit lower first ≡ true
-  lower_held in_time none =
-      or_cases (row_bit greater first) (row_bit lower first) (sym (ticks.either.at first in_time) ∙ found.found in_time)
-      (λ held. absurd (false≢true (sym none ∙ held)))
-      (λ held. held)
-
--- A run that is not at tick 256 has a tick.
-pub run_some : {greater lower : List ℕ} {from : ℕ} {run : Run} → NextRun greater lower from run → (run.first ≡ 256 → ⊥) → run.first < run.end
-run_some next begun = let in_time = next.in_time in next.some (omega arith)
+place_low Greater = omega arith
+place_low Lower = omega arith
 
 -- A row with a tick is one in which the code finds some.
 tick_found : (some : Bool) (ticks : List ℕ) → (some ≡ false → NoTick ticks) → (x : ℕ) → x < 256 → row_bit ticks x ≡ true → some ≡ true
@@ -115,32 +63,32 @@ tick_found some ticks none x h held = cases some (λ b. b) (λ b. absurd (false�
 
 -- The shapes that a run needs are made.
 module _ {gate : Gate} (fields : PulseFields gate) {zeros first second : List ℕ} {some some_lower : Bool} (empty : zeros ≡ replicate 528 0)
-    (one : ShapeMade some (peak_of gate true) gate.rise gate.fall (place_of true) zeros first)
-    (other : ShapeMade some_lower (peak_of gate false) gate.rise gate.fall (place_of false) first second) where
+    (one : ShapeMade some (peak_of gate Greater) gate.rise gate.fall (place_of Greater) zeros first)
+    (other : ShapeMade some_lower (peak_of gate Lower) gate.rise gate.fall (place_of Lower) first second) where
   all_long : length second ≡ 528
   all_long = other.long ∙ one.long ∙ ap length empty
 
-  greater_shaped : some ≡ true → Shaped (peak_of gate true) gate.rise gate.fall (place_of true) second
+  greater_shaped : some ≡ true → Shaped (peak_of gate Greater) gate.rise gate.fall (place_of Greater) second
   unfolding place_of
   greater_shaped needed =
-      let shape = shaped (in_range fields true) (omega arith) (one.long ∙ ap length empty) (λ k l. rw empty (replicate_at 528 (0 + k) 0)) (one.made needed) in
+      let shape = shaped (in_range fields Greater) (omega arith) (one.long ∙ ap length empty) (λ k l. rw empty (replicate_at 528 (0 + k) 0)) (one.made needed) in
       record { long = all_long; low = omega arith; at = λ k l. shape_kept other (0 + k) (inl (omega arith)) ∙ shape.at k l }
 
-  lower_shaped : some_lower ≡ true → Shaped (peak_of gate false) gate.rise gate.fall (place_of false) second
+  lower_shaped : some_lower ≡ true → Shaped (peak_of gate Lower) gate.rise gate.fall (place_of Lower) second
   unfolding place_of
   lower_shaped needed =
       let rise = fields.ranges.rise_high in
       let fall = fields.ranges.fall_high in
-      shaped (in_range fields false) (omega arith) all_long
+      shaped (in_range fields Lower) (omega arith) all_long
       (λ k l. shape_kept one (264 + k) (inr (omega arith)) ∙ rw empty (replicate_at 528 (264 + k) 0)) (other.made needed)
 
   pub shapes_made : (greater lower : List ℕ) → (some ≡ false → NoTick greater) → (some_lower ≡ false → NoTick lower) → ShapesMade gate greater lower second
   shapes_made greater lower none no_lower = record { long = all_long; made = made_for }
     where
-      made_for : (is_greater : Bool) (x : ℕ) → x < 256 → row_bit (cond is_greater greater lower) x ≡ true
-          → Shaped (peak_of gate is_greater) gate.rise gate.fall (place_of is_greater) second
-      made_for true x h held = greater_shaped (tick_found some greater none x h held)
-      made_for false x h held = lower_shaped (tick_found some_lower lower no_lower x h held)
+      made_for : (peak : Peak) (x : ℕ) → x < 256 → row_bit (of_peak peak greater lower) x ≡ true
+          → Shaped (peak_of gate peak) gate.rise gate.fall (place_of peak) second
+      made_for Greater x h held = greater_shaped (tick_found some greater none x h held)
+      made_for Lower x h held = lower_shaped (tick_found some_lower lower no_lower x h held)
 
 -- An edge that a tick allows, and one that it does not.
 module _ (gate : Gate) (P : ℕ) (x t : ℕ) where
@@ -162,31 +110,31 @@ module _ (gate : Gate) (greater lower : List ℕ) (x t : ℕ) where
   pub none_allowed : row_bit greater x ≡ false → row_bit lower x ≡ false → pulse_by_rows gate greater lower x t ≡ 0
   unfolding pulse_by_rows
   none_allowed none no_lower =
-      let one = edge_not_allowed gate (peak_of gate true) x t none in
-      let other = edge_not_allowed gate (peak_of gate false) x t no_lower in
+      let one = edge_not_allowed gate (peak_of gate Greater) x t none in
+      let other = edge_not_allowed gate (peak_of gate Lower) x t no_lower in
       omega arith
 
   greater_allowed : PulseFields gate → row_bit greater x ≡ true
-      → pulse_by_rows gate greater lower x t ≡ pulse_at (peak_of gate true) gate.rise gate.fall gate.delay x t
+      → pulse_by_rows gate greater lower x t ≡ pulse_at (peak_of gate Greater) gate.rise gate.fall gate.delay x t
   unfolding pulse_by_rows
   greater_allowed fields held =
-      let one = edge_allowed gate (peak_of gate true) x t held in
-      let other = edge_at_most gate (peak_of gate false) x t (row_bit lower x) in
-      let less = pulse_at_grows (in_range fields true) (sorted fields) gate.delay x t in
+      let one = edge_allowed gate (peak_of gate Greater) x t held in
+      let other = edge_at_most gate (peak_of gate Lower) x t (row_bit lower x) in
+      let less = pulse_at_grows (in_range fields Greater) (sorted fields) gate.delay x t in
       omega arith
 
   lower_allowed : row_bit greater x ≡ false → row_bit lower x ≡ true
-      → pulse_by_rows gate greater lower x t ≡ pulse_at (peak_of gate false) gate.rise gate.fall gate.delay x t
+      → pulse_by_rows gate greater lower x t ≡ pulse_at (peak_of gate Lower) gate.rise gate.fall gate.delay x t
   unfolding pulse_by_rows
   lower_allowed none held =
-      let one = edge_not_allowed gate (peak_of gate true) x t none in
-      let other = edge_allowed gate (peak_of gate false) x t held in
+      let one = edge_not_allowed gate (peak_of gate Greater) x t none in
+      let other = edge_allowed gate (peak_of gate Lower) x t held in
       omega arith
 
-  peak_allowed : PulseFields gate → (row_bit lower x ≡ true → row_bit greater x ≡ false) → (is_greater : Bool) → row_bit (cond is_greater greater lower) x ≡ true
-      → pulse_by_rows gate greater lower x t ≡ pulse_at (peak_of gate is_greater) gate.rise gate.fall gate.delay x t
-  peak_allowed fields apart true held = greater_allowed fields held
-  peak_allowed fields apart false held = lower_allowed (apart held) held
+  peak_allowed : PulseFields gate → (row_bit lower x ≡ true → row_bit greater x ≡ false) → (peak : Peak) → row_bit (of_peak peak greater lower) x ≡ true
+      → pulse_by_rows gate greater lower x t ≡ pulse_at (peak_of gate peak) gate.rise gate.fall gate.delay x t
+  peak_allowed fields apart Greater held = greater_allowed fields held
+  peak_allowed fields apart Lower held = lower_allowed (apart held) held
 
 -- Where the greater peak is allowed, the lower one may be left out.
 module _ {gate : Gate} (fields : PulseFields gate) {greater lower alone : List ℕ} (without : Without lower greater alone) where
@@ -225,30 +173,28 @@ module _ (gate : Gate) (greater lower : List ℕ) where
   passed_more {from} {to} {next} low high first second =
       added_same _ _ (λ t h. sym (between_append from to next (λ x. pulse_by_rows gate greater lower x t) low high)) (added_both _ _ first second)
 
-  pub passed_rest : {from : ℕ} {run : Run} {words : List ℕ} → NextRun greater lower from run → run.first ≡ 256
-      → Passed gate greater lower from 256 words words
-  passed_rest {from} next past =
+  pub passed_rest : {from : ℕ} {words : List ℕ} → NoRun greater lower from → Passed gate greater lower from 256 words words
+  passed_rest {from} none =
       added_same _ _
-      (λ t h. sym (between_none from 256 _
-      (λ x low l. let none = next.before x low (omega arith) in none_allowed gate greater lower x t none.0 none.1)))
+      (λ t h. sym (between_none from 256 _ (λ x low l. let no_tick = none x low l in none_allowed gate greater lower x t no_tick.0 no_tick.1)))
       added_none
 
 -- A step of the pass: a run is drawn.
 module _ {gate : Gate} {greater lower all : List ℕ} {from : ℕ} {run : Run} {words after : List ℕ} (fields : PulseFields gate)
-    (ticks : TicksByPeak greater lower all) (late : gate.delay ≤ from) (next : NextRun greater lower from run) (some : run.first < run.end)
-    (drawn : RunDrawn (peak_of gate run.greater) gate.rise gate.fall gate.contact (run.first - gate.delay) (run.end - 1 - gate.delay + 1) words after) where
+    (ticks : TicksByPeak greater lower all) (late : gate.delay ≤ from) (next : NextRun greater lower from run)
+    (drawn : RunDrawn (peak_of gate run.peak) gate.rise gate.fall gate.contact (run.first - gate.delay) (run.end - 1 - gate.delay + 1) words after) where
   abbrev allowed : ℕ → ℕ → ℕ
   allowed t x = pulse_by_rows gate greater lower x t
 
   inside : (x t : ℕ) → run.first ≤ x → x < run.end
-      → allowed t x ≡ pulse_at (peak_of gate run.greater) gate.rise gate.fall 0 (x - gate.delay) t
+      → allowed t x ≡ pulse_at (peak_of gate run.peak) gate.rise gate.fall 0 (x - gate.delay) t
   inside x t low h =
       let high = next.high in
       let begun = next.low in
-      peak_allowed gate greater lower x t fields (ticks.apart x (omega arith)) run.greater (next.inside x low h)
-      ∙ same_age (peak_of gate run.greater) gate.rise gate.fall gate.delay x t 0 (x - gate.delay) t (omega arith)
+      peak_allowed gate greater lower x t fields (ticks.apart x (omega arith)) run.peak (next.inside x low h)
+      ∙ same_age (peak_of gate run.peak) gate.rise gate.fall gate.delay x t 0 (x - gate.delay) t (omega arith)
 
-  run_allowed : (t : ℕ) → sum_between (run.first - gate.delay) (run.end - 1 - gate.delay + 1) (λ x. pulse_at (peak_of gate run.greater) gate.rise gate.fall 0 x t)
+  run_allowed : (t : ℕ) → sum_between (run.first - gate.delay) (run.end - 1 - gate.delay + 1) (λ x. pulse_at (peak_of gate run.peak) gate.rise gate.fall 0 x t)
       ≡ sum_between run.first run.end (allowed t)
   unfolding sum_between
   run_allowed t =
@@ -263,6 +209,7 @@ module _ {gate : Gate} {greater lower all : List ℕ} {from : ℕ} {run : Run} {
   passed_run =
       added_same _ _
       (λ t h.
+      let some = next.some in
       let before = between_none from run.first (allowed t)
       (λ x low l. let none = next.before x low l in none_allowed gate greater lower x t none.0 none.1) in
       let whole = between_append from run.first run.end (allowed t) next.low (omega arith) in

@@ -1,6 +1,6 @@
 -- What drawing a gate from the rows of its edges does to the currents of a sheet.
 -- Assumes nothing.
-use Rattle.std.proofs.Common.{◌≡◌, ℕ, ◌<◌, ◌≤◌, min, max, Bool, true, false, cond, eqb, leb, List, length, get_or, sym, refl, ap, ◌∙◌, arith, leb-false, leb-true}
+use Rattle.std.proofs.Common.{◌≡◌, ℕ, ◌<◌, ◌≤◌, min, max, false, cond, eqb, leb, List, length, get_or, sym, refl, ap, ◌∙◌, arith, leb-false, leb-true}
 use native.Mathlib.Nat.{max_comm}
 use borrow.Table.Steps.{cases}
 use Rattle.laws.specs.Below.{sum_below, sum_between}
@@ -17,26 +17,28 @@ use Rattle.rows.specs.Rows.{set_in, RowRead}
 use Rattle.waveform.specs.Rows.{waveform_in}
 use Rattle.current.specs.Current.{allowed_pulse, gate_current}
 use Rattle.current.specs.Drawing.{transitions_in, Drawable, Drawn}
-use Rattle.current.specs.Edges.{edge_of, peak_of, PulseFields, GateEdges, pulse_by_rows, Passed, NoTick}
+use Rattle.current.specs.Edges.{of_peak, edge_of, peak_of, PulseFields, GateEdges, pulse_by_rows, Passed, NoTick}
+use Rattle.current.specs.declared.edge.Peak.{Peak}
+use Rattle.current.specs.declared.edge.Peak.TheVariants.{Greater, Lower}
 use Rattle.current.proofs.Currents.{transition_at, current_sum, current_most}
 use Rattle.current.proofs.Edges.{none_allowed}
 use Rattle.current.proofs.Transitions.{read_from}
 
 -- The edges of a gate are lh and hl, whichever has the greater peak.
-of_edges : (gate : Gate) (Q : Excitation → Type 0) → Q lh → Q hl → (is_greater : Bool) → Q (edge_of gate is_greater)
+of_edges : (gate : Gate) (Q : Excitation → Type 0) → Q lh → Q hl → (peak : Peak) → Q (edge_of gate peak)
 unfolding edge_of
-of_edges gate Q up down is_greater =
+of_edges gate Q up down peak =
     cases (leb gate.peaks.hl gate.peaks.lh)
-    (λ b. rw b (on is_greater up down))
-    (λ b. rw b (on is_greater down up))
+    (λ b. rw b (on peak up down))
+    (λ b. rw b (on peak down up))
   where
-    on : (is_greater : Bool) {a b : Excitation} → Q a → Q b → Q (cond is_greater a b)
-    on true x y = x
-    on false x y = y
+    on : (peak : Peak) {a b : Excitation} → Q a → Q b → Q (of_peak peak a b)
+    on Greater x y = x
+    on Lower x y = y
 
 -- A gate that is drawn from the rows of its edges, as they are read from the work buffer.
 module _ {gate : Gate} {net : ℕ} {work words greater lower : List ℕ} (drawable : Drawable gate work net words)
-    (one : RowRead (edge_of gate true) net work greater) (other : RowRead (edge_of gate false) net work lower) where
+    (one : RowRead (edge_of gate Greater) net work greater) (other : RowRead (edge_of gate Lower) net work lower) where
   fields : PulseFields gate
   fields = record { ranges = drawable.ranges; fits = drawable.fits }
 
@@ -46,8 +48,8 @@ module _ {gate : Gate} {net : ℕ} {work words greater lower : List ℕ} (drawab
       let before = of_edges gate (λ e. (t : ℕ) → t < gate.delay → member e (set_in work net t) ≡ false) drawable.no_rise_before drawable.no_fall_before in
       record {
         fields = fields;
-        greater_from = read_from one gate.delay (omega arith) (before true);
-        lower_from = read_from other gate.delay (omega arith) (before false);
+        greater_from = read_from one gate.delay (omega arith) (before Greater);
+        lower_from = read_from other gate.delay (omega arith) (before Lower);
       }
 
   -- The pulse that a tick allows by the rows is the one that its set allows.

@@ -142,9 +142,10 @@ module _ {P r f rising falling : ℕ} (ready : Factored P r f rising falling) (k
       e ∙ ap (λ factor. level_by P factor k) ready.rising_by ∙ level_by_lem P r k range.peak_high range.rise_low high (omega arith)
       ∙ sym (pulse_up P r f k (omega arith))
 
-  pub fall_level : {level : ℕ} → r ≤ k → k ≤ r + f → level ≡ level_by P falling (r + f - k) → level ≡ pulse P r f k
-  fall_level h l e =
+  pub fall_level : {level : ℕ} → k ≤ f → level ≡ level_by P falling (f - k) → level ≡ pulse P r f (r + k)
+  fall_level l e =
       let range = ready.range in
       let high = range.fall_high in
-      e ∙ ap (λ factor. level_by P factor (r + f - k)) ready.falling_by
-      ∙ level_by_lem P f (r + f - k) range.peak_high range.fall_low high (omega arith) ∙ sym (pulse_from_top range k h l)
+      let steps : r + f - (r + k) ≡ f - k = omega arith in
+      e ∙ ap (λ factor. level_by P factor (f - k)) ready.falling_by ∙ level_by_lem P f (f - k) range.peak_high range.fall_low high (omega arith)
+      ∙ sym (ap (level_after P f) steps) ∙ sym (pulse_from_top range (r + k) (omega arith) (omega arith))

@@ -1,22 +1,32 @@
 -- The shapes of pulses, and words of changes to which the pulses of a run are added.
 -- Assumes nothing.
-use Rattle.std.proofs.Common.{◌≡◌, ℕ, zero, suc, ◌+◌, ◌-◌, ◌*◌, ◌%◌, ◌<◌, ◌≤◌, Bool, ltb, ◌⊎◌, List, length, get_or, set, sym, refl, ap, ◌∙◌, ap₂, inr, le_refl, zero-add, arith, ltb-false, ltb-true}
+use Rattle.std.proofs.Common.{◌≡◌, ℕ, zero, suc, ◌+◌, ◌-◌, ◌*◌, ◌%◌, ◌<◌, ◌≤◌, Bool, ltb, ◌⊎◌, List, length, get_or, sym, refl, ap, ◌∙◌, ap₂, inl, inr, zero-add, arith, ltb-false, ltb-true}
 use native.Mathlib.Nat.{mod-add-mod}
+use mathlib.Core.Logic.{⊎_elim}
 use borrow.Table.Steps.{cases}
 use Rattle.laws.specs.Below.{sum_below, sum_between}
 use Rattle.laws.specs.Rewritten.{Rewritten}
-use Rattle.laws.proofs.Rewritten.{rewritten_next, rewritten_to, rewritten_same, rewritten_append}
+use Rattle.laws.proofs.Rewritten.{rewritten_same, rewritten_append}
 use Rattle.block.specs.Limits.{word_limit}
 use Rattle.sheet.specs.Changes.{wrapped_sum, wrapped_difference, changes_of, restored}
-use Rattle.sheet.proofs.Changes.{difference_is, changes_restore, added_same, changes_added, changes_taken}
+use Rattle.sheet.proofs.Changes.{changes_restore, added_same, changes_added, changes_taken}
 use Rattle.current.specs.Levels.{InRange}
 use Rattle.current.specs.Pulse.{pulse, pulse_at}
-use Rattle.current.specs.Runs.{RiseMade, FallMade, ShapeMade, Shaped, level_in, change_in, SumsMade, DifferencesMade, RunDrawn}
+use Rattle.current.specs.Runs.{Written, ShapeMade, Shaped, Changed, RunDrawn}
 use Rattle.current.proofs.Pulses.{pulse_ends, pulse_at_most, pulse_at_ends, pulse_waits, at_start, same_age}
 
--- The shape of a pulse: its rise and its fall, and nothing where zeros stood.
-pub shape_made : (P r f place : ℕ) {shapes risen after : List ℕ} → RiseMade P r f place shapes risen → FallMade P r f place risen after
-    → Rewritten (pulse P r f) place (r + f) shapes after
+-- Words that are written one by one, as they may be: where that is one number each, they are rewritten by it.
+pub written_by : {may : ℕ → ℕ → Type 0} (f : ℕ → ℕ) {from n : ℕ} {given after : List ℕ} → ((k v : ℕ) → k < n → may k v → v ≡ f k)
+    → Written may from n given after → Rewritten f from n given after
+written_by f {from} {n} {given} {after} is w = record {
+  long = w.long;
+  done = λ k h. is k (get_or after (from + k) 0) h (w.done k h);
+  rest = w.rest;
+}
+
+-- The shape of a pulse: its rise, up to before the peak, and its fall, from the peak on.
+pub shape_made : (P r f place : ℕ) {shapes risen after : List ℕ} → Rewritten (pulse P r f) place r shapes risen
+    → Rewritten (λ k. pulse P r f (r + k)) (place + r) f risen after → Rewritten (pulse P r f) place (r + f) shapes after
 shape_made P r f place rise fall =
     rewritten_append (pulse P r f) (λ k. pulse P r f (r + k)) (pulse P r f) place r (place + r) f _ _ _ refl (λ k l. refl) (λ k l. refl) rise fall
 
@@ -36,51 +46,44 @@ pub shape_kept : {needed : Bool} {P r f place : ℕ} {shapes after : List ℕ} �
 shape_kept {needed} {shapes = shapes} shape i outside =
     cases needed (λ b. (shape.made b).rest i outside) (λ b. ap (λ words. get_or words i 0) (shape.kept b))
 
--- Words that a rule makes of what stood there and a number, one by one.
-module _ (rule : ℕ → ℕ → ℕ) where
-  abbrev Made : (ℕ → ℕ) → ℕ → ℕ → List ℕ → List ℕ → Type 0
-  Made number from n words = Rewritten (λ k. rule (get_or words (from + k) 0) (number k)) from n words
+-- Words that are changed one by one: two stretches, the second right after the first, are one.
+module _ (may : ℕ → ℕ → ℕ → ℕ → Type 0) (shapes : List ℕ) (place at : ℕ) where
+  pub changed_append : (n m : ℕ) {words between after : List ℕ} → Changed may shapes place at n words between
+      → Changed may shapes (place + n) (at + n) m between after → (next : ℕ) → n + m ≡ next → Changed may shapes place at next words after
+  changed_append n m {words} {between} {after} w v next sum = record {
+    long = v.long ∙ w.long;
+    done = λ k h. cases (ltb k n)
+        (λ t. let b = ltb-true k n t in
+        let same : get_or after (at + k) 0 ≡ get_or between (at + k) 0 = v.rest (at + k) (inl (omega arith)) in
+        rw same (w.done k b))
+        (λ t. let b = ltb-false k n t in
+        let given : get_or between (at + n + (k - n)) 0 ≡ get_or words (at + n + (k - n)) 0 = w.rest (at + n + (k - n)) (inr (omega arith)) in
+        let one : may (get_or words (at + n + (k - n)) 0) (get_or shapes (place + n + (k - n)) 0) (get_or shapes (place + n + (k - n) + 1) 0) (get_or after (at + n + (k - n)) 0)
+        = rw (sym given) (v.done (k - n) (omega arith)) in
+        let i : at + n + (k - n) ≡ at + k = omega arith in
+        let l : place + n + (k - n) ≡ place + k = omega arith in
+        rw (i, l) at one);
+    rest = λ j o. ⊎_elim
+        (λ b. v.rest j (inl (omega arith)) ∙ w.rest j (inl b))
+        (λ b. v.rest j (inr (omega arith)) ∙ w.rest j (inr (omega arith)))
+        o;
+  }
 
-  -- One word more.
-  pub made_next : (number : ℕ → ℕ) (from k at v : ℕ) {words now : List ℕ} → Made number from k words now → at ≡ from + k → at < length words
-      → v ≡ rule (get_or now at 0) (number k) → (next : ℕ) → k + 1 ≡ next → Made number from next words (set now at v)
-  made_next number from k at v {words} {now} w place inside e next n =
-      let old : get_or now at 0 ≡ get_or words (from + k) 0 = rw place (w.rest (from + k) (inr (le_refl (from + k)))) in
-      rewritten_to _ from (k + 1) next words _ n
-      (rewritten_next _ from k at v words now place inside (e ∙ ap (λ x. rule x (number k)) old) w)
+-- The level of the shapes k ticks from a place on, and its change to the level of the next tick.
 
-  -- Two stretches, the second right after the first, are one.
-  pub made_append : (number number' : ℕ → ℕ) (from n from' m : ℕ) {words between after : List ℕ} → Made number from n words between
-      → from' ≡ from + n → ((k : ℕ) → k < m → number' k ≡ number (n + k)) → Made number' from' m between after → (next : ℕ) → n + m ≡ next
-      → Made number from next words after
-  made_append number number' from n from' m {words} {between} {after} v place same w next e =
-      rewritten_to _ from (n + m) next words _ e
-      (rewritten_append _ (λ k. rule (get_or between (from' + k) 0) (number' k)) _ from n from' m words between after place
-      (λ k l. refl)
-      (λ k l. let i : from' + k ≡ from + (n + k) = omega arith in
-      ap₂ rule (v.rest (from' + k) (inr (omega arith)) ∙ ap (λ i. get_or words i 0) i) (same k l))
-      v w)
+abbrev pub level_in : List ℕ → ℕ → ℕ → ℕ
+level_in shapes place k = get_or shapes (place + k) 0
 
--- The changes of a shape from a later place on.
-pub change_later : (shapes : List ℕ) (place n k later : ℕ) → later ≡ place + n → change_in shapes later k ≡ change_in shapes place (n + k)
-change_later shapes place n k later e =
-    ap₂ wrapped_difference (ap (λ j. get_or shapes j 0) (let i : later + (k + 1) ≡ place + (n + k + 1) = omega arith in i))
-    (ap (λ j. get_or shapes j 0) (let i : later + k ≡ place + (n + k) = omega arith in i))
+abbrev pub change_in : List ℕ → ℕ → ℕ → ℕ
+change_in shapes place k = wrapped_difference (get_or shapes (place + k + 1) 0) (level_in shapes place k)
 
--- What the code's sums and differences are.
+-- Words from a place on to which n numbers are added, or from which they are taken away, modulo 2 ^ 64.
 
-pub sum_taken : (word : ℕ) {number level result : ℕ} → number ≡ level → result ≡ (word + number) % word_limit → result ≡ wrapped_sum word level
-unfolding wrapped_sum
-sum_taken word e r = r ∙ ap (λ x. (word + x) % word_limit) e
+abbrev SumsMade : (ℕ → ℕ) → ℕ → ℕ → List ℕ → List ℕ → Type 0
+SumsMade number at n words = Rewritten (λ k. wrapped_sum (get_or words (at + k) 0) (number k)) at n words
 
-pub difference_taken : {word number level result : ℕ} → number ≡ level → number < 65536 → result < word_limit → (result + number) % word_limit ≡ word
-    → result ≡ wrapped_difference word level
-difference_taken {word} {number} {level} {result} e small fits r =
-    difference_is word number result (omega arith) fits r ∙ ap (wrapped_difference word) e
-
-pub change_taken : {next following number level result : ℕ} → next ≡ following → number ≡ level → number < 65536 → result < word_limit
-    → (result + number) % word_limit ≡ next → result ≡ wrapped_difference following level
-change_taken {level = level} n e small fits r = difference_taken e small fits r ∙ ap (λ x. wrapped_difference x level) n
+abbrev DifferencesMade : (ℕ → ℕ) → ℕ → ℕ → List ℕ → List ℕ → Type 0
+DifferencesMade number at n words = Rewritten (λ k. wrapped_difference (get_or words (at + k) 0) (number k)) at n words
 
 -- Over the ticks up to a tick, a pulse sums to what the pulse that starts a tick later does, and its own level there. So the sum of the
 -- pulses of a run at a tick is the difference of two such sums.
@@ -139,7 +142,9 @@ module _ {P r f place contact first end n : ℕ} {shapes : List ℕ} (range : In
   change_at k h =
       let next : first + (k + 1) ≡ suc (first + k) = omega arith in
       let now : suc first + k ≡ suc (first + k) = omega arith in
-      ap₂ wrapped_difference (level_at first (k + 1) (omega arith) ∙ ap (pulse_from first) next) (level_at first k (omega arith))
+      let follows : place + k + 1 ≡ place + (k + 1) = omega arith in
+      ap₂ wrapped_difference (ap (λ j. get_or shapes j 0) follows ∙ level_at first (k + 1) (omega arith) ∙ ap (pulse_from first) next)
+      (level_at first k (omega arith))
       ∙ ap changes (sym now)
 
   pub pulse_drawn : {words after : List ℕ} → end ≡ first + 1 → SumsMade (change_in shapes place) (512 * contact + end) n words after

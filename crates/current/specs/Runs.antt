@@ -1,17 +1,15 @@
 -- The pulses of a run of ticks, as the code adds them to the changes of a sheet in the making.
-use Rattle.std.specs.Prelude.{◌≡◌, ℕ, ◌+◌, ◌<◌, ◌≤◌, Bool, true, false, List, length, slice_index}
+use Rattle.std.specs.Prelude.{◌≡◌, ℕ, ◌+◌, ◌<◌, ◌≤◌, Bool, true, false, List, ◌⊎◌, length, slice_index}
 use Rattle.laws.specs.Below.{sum_between}
 use Rattle.laws.specs.Rewritten.{Rewritten}
-use Rattle.sheet.specs.Changes.{wrapped_sum, wrapped_difference, Added}
+use Rattle.sheet.specs.Changes.{Added}
 use Rattle.current.specs.Pulse.{pulse, pulse_at}
 
--- Shapes once the rise of a pulse is made, up to before the peak, and once its fall is, from the peak on. The pulse stands there from a
--- place on.
-abbrev pub RiseMade : ℕ → ℕ → ℕ → ℕ → List ℕ → List ℕ → Type 0
-RiseMade P r f place = Rewritten (pulse P r f) place r
-
-abbrev pub FallMade : ℕ → ℕ → ℕ → ℕ → List ℕ → List ℕ → Type 0
-FallMade P r f place = Rewritten (λ k. pulse P r f (r + k)) (place + r) f
+-- Words of which the n from a place on are written one by one. `may` says what may be written as the kth of them.
+pub record Written (may : ℕ → ℕ → Type 0) (from n : ℕ) (given after : List ℕ) : Type 0 where
+  pub long : length after ≡ length given
+  pub done : (k : ℕ) → k < n → may k (slice_index after (from + k))
+  pub rest : (j : ℕ) → (j < from) ⊎ (from + n ≤ j) → slice_index after j ≡ slice_index given j
 
 -- Shapes once that of a pulse is made, where it is needed.
 pub record ShapeMade (needed : Bool) (P r f place : ℕ) (shapes after : List ℕ) : Type 0 where
@@ -25,21 +23,11 @@ pub record Shaped (P r f place : ℕ) (shapes : List ℕ) : Type 0 where
   pub low : place ≤ 264
   pub at : (k : ℕ) → k < 264 → slice_index shapes (place + k) ≡ pulse P r f k
 
--- The level of the shapes k ticks from a place on, and its change to the level of the next tick.
-
-abbrev pub level_in : List ℕ → ℕ → ℕ → ℕ
-level_in shapes place k = slice_index shapes (place + k)
-
-abbrev pub change_in : List ℕ → ℕ → ℕ → ℕ
-change_in shapes place k = wrapped_difference (level_in shapes place (k + 1)) (level_in shapes place k)
-
--- Words from a place on to which n numbers are added, or from which they are taken away, modulo 2 ^ 64.
-
-abbrev pub SumsMade : (ℕ → ℕ) → ℕ → ℕ → List ℕ → List ℕ → Type 0
-SumsMade number at n words = Rewritten (λ k. wrapped_sum (slice_index words (at + k)) (number k)) at n words
-
-abbrev pub DifferencesMade : (ℕ → ℕ) → ℕ → ℕ → List ℕ → List ℕ → Type 0
-DifferencesMade number at n words = Rewritten (λ k. wrapped_difference (slice_index words (at + k)) (number k)) at n words
+-- Words from a place on, n of which are changed one by one, each by the level of the shapes that belongs to it and the level that follows.
+-- `may` says what such a change may make of a word.
+abbrev pub Changed : (ℕ → ℕ → ℕ → ℕ → Type 0) → List ℕ → ℕ → ℕ → ℕ → List ℕ → List ℕ → Type 0
+Changed may shapes place at n words =
+    Written (λ k. may (slice_index words (at + k)) (slice_index shapes (place + k)) (slice_index shapes (place + k + 1))) at n words
 
 -- Words of changes once the pulses of a run are added: those that start at ticks `first` to before `end`.
 abbrev pub RunDrawn : ℕ → ℕ → ℕ → ℕ → ℕ → ℕ → List ℕ → List ℕ → Type 0

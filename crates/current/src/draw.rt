@@ -4,82 +4,41 @@
 // words from the run's first tick on, and to take it away from the tick after the last on.
 ghost use Rattle.std.specs.Prelude.{◌≡◌, ◌+◌, ◌*◌, ◌<◌, ◌≤◌, length};
 ghost use Rattle.current.specs.Levels.{InRange};
-ghost use Rattle.current.specs.Runs.{Shaped, level_in, change_in, SumsMade, DifferencesMade, RunDrawn};
+ghost use Rattle.current.specs.Runs.{Shaped, Changed, RunDrawn};
 
 use super::level::Pulse;
 use sheet::Word;
 
-// Eight levels of the shapes from a place on added to eight words from place `at` on.
-fn add_eight_levels(words: &mut [Word], at: usize, shapes: &[u16], place: usize)
-    requires { (at + 8 ≤ length words.old) × (place + 8 ≤ length shapes.now) }
-    ensures { SumsMade (level_in shapes.now place) at 8 words.old words.new }
+// Eight words from place `at` on changed, each by the level of the shapes that belongs to it, from a place on, and the level that follows.
+fn change_eight<F: Fn(Word, u16, u16) -> Word>(
+    words: &mut [Word],
+    at: usize,
+    shapes: &[u16; 528],
+    place: usize,
+    change: &F,
+)
+    requires { (at + 8 ≤ length words.old) × (place + 8 < 528) × F.IsAlwaysCallable change.now }
+    ensures { Changed (F.post change.now) shapes.now place at 8 words.old words.new }
 {
-    let mut k: usize = 0;
-    while k < 8 {
-        let level = numbers::u64_from_u16(shapes[place + k]);
-        words[at + k] = std::num::wrapping_add_u64(words[at + k], level);
-        k += 1;
+    for k in 0..8 {
+        words[at + k] = change(words[at + k], shapes[place + k], shapes[place + k + 1]);
     }
 }
 
-fn add_levels(words: &mut [Word], at: usize, shapes: &[u16], place: usize, eights: usize)
-    requires { (at + 8 * eights ≤ length words.old) × (length words.old ≡ 8192) × (place + 8 * eights ≤ length shapes.now) × (length shapes.now ≡ 528) }
-    ensures { SumsMade (level_in shapes.now place) at (8 * eights) words.old words.new }
+// The same of as many eights of words.
+fn change_words<F: Fn(Word, u16, u16) -> Word>(
+    words: &mut [Word],
+    at: usize,
+    shapes: &[u16; 528],
+    place: usize,
+    eights: usize,
+    change: F,
+)
+    requires { (at + 8 * eights ≤ length words.old) × (place + 8 * eights < 528) × F.IsAlwaysCallable change }
+    ensures { Changed (F.post change) shapes.now place at (8 * eights) words.old words.new }
 {
-    let mut n: usize = 0;
-    while n < eights {
-        add_eight_levels(words, at + 8 * n, shapes, place + 8 * n);
-        n += 1;
-    }
-}
-
-// The same taken away.
-fn take_eight_levels(words: &mut [Word], at: usize, shapes: &[u16], place: usize)
-    requires { (at + 8 ≤ length words.old) × (place + 8 ≤ length shapes.now) }
-    ensures { DifferencesMade (level_in shapes.now place) at 8 words.old words.new }
-{
-    let mut k: usize = 0;
-    while k < 8 {
-        let level = numbers::u64_from_u16(shapes[place + k]);
-        words[at + k] = std::num::wrapping_sub_u64(words[at + k], level);
-        k += 1;
-    }
-}
-
-fn take_levels(words: &mut [Word], at: usize, shapes: &[u16], place: usize, eights: usize)
-    requires { (at + 8 * eights ≤ length words.old) × (length words.old ≡ 8192) × (place + 8 * eights ≤ length shapes.now) × (length shapes.now ≡ 528) }
-    ensures { DifferencesMade (level_in shapes.now place) at (8 * eights) words.old words.new }
-{
-    let mut n: usize = 0;
-    while n < eights {
-        take_eight_levels(words, at + 8 * n, shapes, place + 8 * n);
-        n += 1;
-    }
-}
-
-// Eight changes of the levels from a place on, each to the level that follows, added to eight words from place `at` on.
-fn add_eight_changes(words: &mut [Word], at: usize, shapes: &[u16], place: usize)
-    requires { (at + 8 ≤ length words.old) × (place + 9 ≤ length shapes.now) }
-    ensures { SumsMade (change_in shapes.now place) at 8 words.old words.new }
-{
-    let mut k: usize = 0;
-    while k < 8 {
-        let level = numbers::u64_from_u16(shapes[place + k]);
-        let next = numbers::u64_from_u16(shapes[place + k + 1]);
-        let change = std::num::wrapping_sub_u64(next, level);
-        words[at + k] = std::num::wrapping_add_u64(words[at + k], change);
-        k += 1;
-    }
-}
-
-fn add_changes(words: &mut [Word], at: usize, shapes: &[u16], place: usize, eights: usize)
-    requires { (at + 8 * eights ≤ length words.old) × (length words.old ≡ 8192) × (place + 8 * eights + 1 ≤ length shapes.now) × (length shapes.now ≡ 528) }
-    ensures { SumsMade (change_in shapes.now place) at (8 * eights) words.old words.new }
-{
-    let mut n: usize = 0;
-    while n < eights {
-        add_eight_changes(words, at + 8 * n, shapes, place + 8 * n);
-        n += 1;
+    for n in 0..eights {
+        change_eight(words, at + 8 * n, shapes, place + 8 * n, &change);
     }
 }
 
@@ -88,7 +47,7 @@ pub fn draw_run(
     words: &mut [Word],
     contact: usize,
     pulse: Pulse,
-    shapes: &[u16],
+    shapes: &[u16; 528],
     place: usize,
     first: usize,
     last: usize,
@@ -99,9 +58,14 @@ pub fn draw_run(
     let eights = (pulse.rise + pulse.fall + 7) / 8;
     let row = 512 * contact;
     if first == last {
-        add_changes(words, row + (last + 1), shapes, place, eights);
+        let add_change = |word: Word, level: u16, next: u16| {
+            word.wrapping_add(u64::from(next).wrapping_sub(u64::from(level)))
+        };
+        change_words(words, row + (last + 1), shapes, place, eights, add_change);
         return;
     }
-    add_levels(words, row + first, shapes, place, eights);
-    take_levels(words, row + (last + 1), shapes, place, eights);
+    let add = |word: Word, level: u16, _next: u16| word.wrapping_add(u64::from(level));
+    change_words(words, row + first, shapes, place, eights, add);
+    let take = |word: Word, level: u16, _next: u16| word.wrapping_sub(u64::from(level));
+    change_words(words, row + (last + 1), shapes, place, eights, take);
 }

@@ -1,7 +1,9 @@
 // One gate drawn: its current added at its contact, in the changes of a sheet in the making.
 ghost use Rattle.current.specs.Drawing.{transitions_in, Drawable, Drawn};
 
-use super::{edge, pass};
+use super::edge::{self, Peak};
+use super::pass;
+use super::ticks::has_tick;
 use block::{Gate, Net};
 use sheet::Word;
 
@@ -10,10 +12,10 @@ pub fn draw_gate(gate: Gate, work: &[u8], net: Net, sheet: &mut [Word])
     requires { Drawable gate work.now net.0 sheet.old }
     ensures { Drawn gate (transitions_in work.now net.0) sheet.old sheet.new }
 {
-    let greater = rows::read_row(work, net.0, edge::edge_of(gate, true));
-    let lower = rows::read_row(work, net.0, edge::edge_of(gate, false));
-    if !edge::has_tick(&greater) && !edge::has_tick(&lower) {
+    let greater = rows::read_row(work, net.0, edge::edge_of(gate, Peak::Greater));
+    let lower = rows::read_row(work, net.0, edge::edge_of(gate, Peak::Lower));
+    if !has_tick(&greater) && !has_tick(&lower) {
         return;
     }
-    pass::pass_ticks(sheet, gate, &greater, &lower);
+    pass::pass_ticks(sheet, gate, greater, &lower);
 }

@@ -31,7 +31,7 @@ fn level_in_256ths(peak: u32, factor: u32, j: usize) -> u32
     requires { (peak < peak_limit) × (j < 128) }
     ensures { (result ≡ level_in256ths peak factor j) × (result + 128 < 4294967296) }
 {
-    let product = numbers::u64_from_u32(peak * j as u32) * numbers::u64_from_u32(factor);
+    let product = u64::from(peak * j as u32) * u64::from(factor);
     (product / 8388608) as u32
 }
 

@@ -7,5 +7,6 @@ mod gate;
 mod level;
 mod pass;
 mod shape;
+mod ticks;
 
 pub use gate::draw_gate;

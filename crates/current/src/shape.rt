@@ -1,44 +1,38 @@
 // The shapes of pulses. The pulses of one peak have one shape, made once and drawn as often as the peak is reached. The shapes of a gate
 // stand in one buffer, each from a place on.
-ghost use Rattle.std.specs.Prelude.{◌≡◌, ◌≤◌, length};
+ghost use Rattle.std.specs.Prelude.{◌≡◌, ◌+◌, ◌<◌, ◌≤◌, ℕ, length};
 ghost use Rattle.current.specs.Levels.{Factored};
-ghost use Rattle.current.specs.Runs.{RiseMade, FallMade, ShapeMade};
+ghost use Rattle.current.specs.Runs.{Written, ShapeMade};
 
 use super::level::{Factors, Pulse, level};
 
-// The rise of a pulse, up to before the peak, among the shapes from a place on.
-fn make_rise(shapes: &mut [u16], place: usize, pulse: Pulse, factors: Factors)
-    requires { (length shapes.old ≡ 528) × (place ≤ 264) × Factored pulse.peak pulse.rise pulse.fall factors.rising factors.falling }
-    ensures { RiseMade pulse.peak pulse.rise pulse.fall place shapes.old shapes.new }
+// So many words of the shapes, from place `from` on, written by what there is at each step.
+fn write_steps<F: Fn(usize) -> u16>(shapes: &mut [u16; 528], from: usize, steps: usize, at: F)
+    requires { (from + steps ≤ 528) × ((k : ℕ) → k < steps → F.pre at k) }
+    ensures { Written (F.post at) from steps shapes.old shapes.new }
 {
-    let mut k: usize = 0;
-    while k < pulse.rise {
-        shapes[place + k] = level(pulse.peak, factors.rising, k) as u16;
-        k += 1;
+    for (k, word) in shapes[from..from + steps].iter_mut().enumerate() {
+        *word = at(k);
     }
 }
 
-// The fall of a pulse, from the peak on.
-fn make_fall(shapes: &mut [u16], place: usize, pulse: Pulse, factors: Factors)
-    requires { (length shapes.old ≡ 528) × (place ≤ 264) × Factored pulse.peak pulse.rise pulse.fall factors.rising factors.falling }
-    ensures { FallMade pulse.peak pulse.rise pulse.fall place shapes.old shapes.new }
-{
-    let end = pulse.rise + pulse.fall;
-    let mut k = pulse.rise;
-    while k < end {
-        shapes[place + k] = level(pulse.peak, factors.falling, end - k) as u16;
-        k += 1;
-    }
-}
-
-// The shape of a pulse, where it is needed: its level after each number of ticks.
-pub fn make_shape(needed: bool, shapes: &mut [u16], place: usize, pulse: Pulse, factors: Factors)
-    requires { (length shapes.old ≡ 528) × (place ≤ 264) × Factored pulse.peak pulse.rise pulse.fall factors.rising factors.falling }
+// The shape of a pulse, where it is needed: its level after each number of ticks, in its rise, up to before the peak, and in its fall, from
+// the peak on.
+pub fn make_shape(
+    needed: bool,
+    shapes: &mut [u16; 528],
+    place: usize,
+    pulse: Pulse,
+    factors: Factors,
+)
+    requires { (place ≤ 264) × Factored pulse.peak pulse.rise pulse.fall factors.rising factors.falling }
     ensures { ShapeMade needed pulse.peak pulse.rise pulse.fall place shapes.old shapes.new }
 {
     if !needed {
         return;
     }
-    make_rise(shapes, place, pulse, factors);
-    make_fall(shapes, place, pulse, factors);
+    let rising = |k: usize| level(pulse.peak, factors.rising, k) as u16;
+    write_steps(shapes, place, pulse.rise, rising);
+    let falling = |k: usize| level(pulse.peak, factors.falling, pulse.fall - k) as u16;
+    write_steps(shapes, place + pulse.rise, pulse.fall, falling);
 }

@@ -22,11 +22,9 @@ fn make_inputs(file: &[u8], codes: &[u8], inputs: usize, work: &mut [u8])
     requires { (20 * inputs ≤ length file.now) × InputCodes inputs codes.now × HasRows work.old inputs }
     ensures { InputsMade file.now inputs codes.now work.old work.new }
 {
-    let mut net: usize = 0;
-    while net < inputs {
+    for net in 0..inputs {
         let switching = record::switching_tick(file, Net(net));
         waveform::input_waveform(work, Net(net), codes[net], switching);
-        net += 1;
     }
 }
 
@@ -48,14 +46,12 @@ fn draw(file: &[u8], setting: Setting, codes: &[u8], sheet: &mut [Word], work: &
     sheet::clear(sheet);
     make_inputs(file, codes, setting.inputs, work);
     let mut settling: usize = 0;
-    let mut net = setting.inputs;
-    while net < setting.nets {
+    for net in setting.inputs..setting.nets {
         let gate = view::gate(file, Net(net));
         waveform::gate_waveform(Net(net), gate, &joins, setting.hops, work);
         current::draw_gate(gate, work, Net(net), sheet);
         let arrival = waveform::arrival(work, Net(net));
-        settling = numbers::max_usize(settling, last_pulse_end(gate, arrival));
-        net += 1;
+        settling = settling.max(last_pulse_end(gate, arrival));
     }
     settling
 }

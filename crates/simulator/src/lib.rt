@@ -36,10 +36,8 @@ fn pattern_codes(pattern: &[u8], inputs: usize, codes: &mut [u8])
     requires { (inputs ≤ 64) × (length pattern.now ≡ 64) × (length codes.old ≡ 64) }
     ensures { PatternCodes inputs pattern.now codes.new }
 {
-    let mut net: usize = 0;
-    while net < inputs {
+    for net in 0..inputs {
         codes[net] = excitation::single(excitation::excitation_of(pattern[net])).code;
-        net += 1;
     }
 }
 

