@@ -11,13 +11,13 @@ use lib.ListN.{length, take, drop, length-append}
 use lib.Seq.{take_at}
 use borrow.Author.Tests.{le-leb}
 use Rattle.std.proofs.Common.{Option, Some, None}
-use Rattle.std.specs.Prelude.{is_some}
+use Rattle.std.specs.Prelude.{is_some, Ok, Err}
 use Rattle.laws.proofs.Tests.{and_left, and_right, and_both}
-use Rattle.block.specs.Verdict.{verdict, refusal}
-use Rattle.block.specs.declared.Refusal.{Refusal}
-use Rattle.block.specs.declared.Verdict.{Verdict}
-use Rattle.block.specs.declared.Verdict.TheVariants.{Accepted, Refused}
-use Rattle.block.proofs.Verdicts.{apart, all_passed}
+use Rattle.block.specs.Verdict.{verdict, refusal, Verdict, Accepted}
+use Rattle.block.specs.declared.verdict.Reason.TheVariants.{WrongLine}
+use Rattle.block.specs.declared.verdict.Refusal.{Refusal}
+use Rattle.block.proofs.Verdicts.{all_passed}
+use Rattle.operation.specs.Operation.{answer_after}
 use Rattle.netlist.specs.Names.{Letters}
 use Rattle.netlist.specs.Forms.{Form, line_form, forms_of, form_right, given_by, names_of, is_gate}
 use Rattle.netlist.specs.Kept.{LineAt, right_kept, line_kept, line_name, line_is_gate}
@@ -77,6 +77,11 @@ none_judged text kept from number gates inside numbered =
 
 module _ {text : List ℕ} {kept : List Name} {from number : ℕ} {gates : Bool} {at passed : ℕ} {after more : Bool}
     (j : LinesJudged text kept from number gates at passed after more) where
+  -- The answer is by the verdict.
+  answered : {v w : Verdict} → v ≡ w
+      → answer_after v (leb 1 (length (names_of (forms_of (drop from text))))) ≡ answer_after w (leb 1 (length (names_of (forms_of (drop from text)))))
+  answered e = rw e refl
+
   -- What is left decides.
   by_left : (names : List Letters) → Held names kept → {left : List Form} → forms_of (drop at text) ≡ left
       → verdict (lines_from number names gates (forms_of (drop from text)))
@@ -85,16 +90,12 @@ module _ {text : List ℕ} {kept : List Name} {from number : ℕ} {gates : Bool}
       j.judged names held ∙ ap (λ forms. verdict (lines_from (number + passed) (names ++ names_of j.before) after forms)) e
 
   -- All lines are judged.
-  pub all_judged : length text ≤ at
-      → JudgedLater (forms_of (drop from text)) kept number gates (record { verdict = Accepted; more = more })
+  pub all_judged : length text ≤ at → JudgedLater (forms_of (drop from text)) kept number gates (Ok more)
   unfolding lines_from
   all_judged h names held =
       let none = no_forms text at h in
       let all : forms_of (drop from text) ≡ j.before = j.split ∙ ap (λ forms. j.before ++ forms) none ∙ append-nil j.before in
-      record {
-        judged = all_passed ∙ sym (by_left names held none);
-        more = λ e. j.given ∙ ap (λ forms. leb 1 (length (names_of forms))) (sym all);
-      }
+      ap Ok (j.given ∙ ap (λ forms. leb 1 (length (names_of forms))) (sym all)) ∙ answered (all_passed ∙ sym (by_left names held none))
 
   -- A line more.
   module _ {span : Span} {read : Option Line} (here : LineAt text at span)
@@ -105,16 +106,11 @@ module _ {text : List ℕ} {kept : List Name} {from number : ℕ} {gates : Bool}
     abbrev rest : List Form
     rest = forms_of (drop span.next text)
 
-    pub form_refused : read ≡ None
-        → JudgedLater (forms_of (drop from text)) kept number gates
-        (record { verdict = Refused (refusal 17 (number + passed)); more = false })
+    pub form_refused : read ≡ None → JudgedLater (forms_of (drop from text)) kept number gates (Err (refusal WrongLine (number + passed)))
     form_refused e names held =
         let wrong = line_wrong form is e in
-        record {
-          judged = sym (by_left names held (forms_at here)
-              ∙ lines_refused _ _ _ form rest _ (sym (wrong_line_lem (number + passed) (names ++ names_of j.before) after form wrong)));
-          more = λ a. apart _ a;
-        }
+        answered (sym (by_left names held (forms_at here)
+        ∙ lines_refused _ _ _ form rest _ (sym (wrong_line_lem (number + passed) (names ++ names_of j.before) after form wrong))))
 
     module _ {line : Line} {v : Verdict} (some : read ≡ Some line)
         (judge : JudgedIn (take passed (forms_of (drop from text))) kept line (number + passed) after v) where
@@ -133,13 +129,9 @@ module _ {text : List ℕ} {kept : List Name} {from number : ℕ} {gates : Bool}
           subst (λ forms. JudgedIn forms kept line (number + passed) after v) first judge in
           judged names form held j.right as_kept formed
 
-      pub line_refused : (r : Refusal) (m : Bool) → v ≡ Refused r
-          → JudgedLater (forms_of (drop from text)) kept number gates (record { verdict = Refused r; more = m })
-      line_refused r m e names held =
-          record {
-            judged = sym (by_left names held (forms_at here) ∙ lines_refused _ _ _ form rest r (sym (line_judged names held) ∙ e));
-            more = λ a. apart r a;
-          }
+      pub line_refused : {r : Refusal} → v ≡ Err r → JudgedLater (forms_of (drop from text)) kept number gates (Err r)
+      line_refused {r} e names held =
+          answered (sym (by_left names held (forms_at here) ∙ lines_refused _ _ _ form rest r (sym (line_judged names held) ∙ e)))
 
       pub judged_next : v ≡ Accepted
           → LinesJudged text kept from number gates span.next (passed + 1) (after || line_is_gate line)

@@ -1,5 +1,5 @@
-pub mod Answers
 pub mod Rows
+pub mod Told
 pub mod Handing
 pub mod Lines
 pub mod Lookups

@@ -7,8 +7,8 @@ use mathlib.Core.Path.{◌≡◌, refl, sym, ap, ◌∙◌}
 use native.Mathlib.Omega.{arith}
 use lib.ListN.{length, get_or, length-append}
 use Rattle.laws.proofs.Tests.{and_left}
-use Rattle.block.specs.Verdict.{verdict}
-use Rattle.block.specs.declared.Verdict.TheVariants.{Accepted}
+use Rattle.block.specs.Verdict.{verdict, Accepted}
+use Rattle.block.specs.declared.verdict.Reason.TheVariants.{WrongLine, WrongName}
 use Rattle.block.proofs.Verdicts.{both_accepted, passed}
 use Rattle.netlist.specs.Names.{Letters}
 use Rattle.netlist.specs.Forms.{Form, empty, input, output, gate, none, form_right, given_by, names_of, is_gate}
@@ -68,8 +68,8 @@ pub line_passed : (number : ℕ) (names : List Letters) (gates : Bool) (before :
     → (form_right form ≡ true) × (names_right (names ++ names_of before) form ≡ true)
 unfolding lines_from names_of line_checks
 line_passed number names gates [] form after e =
-    let first = passed 17 number (form_right form && in_place gates form) _ e in
-    let second = passed 18 number (names_right names form) _ first.1 in
+    let first = passed WrongLine number (form_right form && in_place gates form) _ e in
+    let second = passed WrongName number (names_right names form) _ first.1 in
     (and_left (form_right form) (in_place gates form) first.0, rw append-nil second.0)
 line_passed number names gates (first ∷ before) form after e =
     let later = (both_accepted (line_checks number names gates first) _ e).1 in

@@ -7,10 +7,9 @@ use mathlib.Core.Path.{◌≡◌, refl, sym, ap, ◌∙◌}
 use native.Mathlib.Numerals.{add-one}
 use native.Mathlib.Omega.{arith}
 use lib.ListN.{length, take, drop, drop_of_length-le}
-use Rattle.block.specs.Verdict.{verdict}
-use Rattle.block.specs.declared.Refusal.{Refusal}
-use Rattle.block.specs.declared.Verdict.{Verdict}
-use Rattle.block.specs.declared.Verdict.TheVariants.{Accepted, Refused}
+use Rattle.std.specs.Prelude.{Err}
+use Rattle.block.specs.Verdict.{verdict, Verdict, Accepted}
+use Rattle.block.specs.declared.verdict.Refusal.{Refusal}
 use Rattle.block.proofs.Verdicts.{refused_first, accepted_first}
 use Rattle.netlist.specs.Lines.{lines_of}
 use Rattle.netlist.specs.Names.{Letters, are_names}
@@ -20,7 +19,7 @@ use Rattle.netlist.specs.declared.Span.{Span}
 use Rattle.bench.specs.declared.Table.{Table}
 use Rattle.bench.specs.Checks.{line_checks, lines_from}
 use Rattle.bench.specs.Records.{record_of, records_from}
-use Rattle.bench.specs.Held.{made_records, LineRead, LinesTaken}
+use Rattle.bench.specs.Held.{made_records, LineRead, LinesTaken, Begun}
 
 -- The lines of a text from byte `at` on: the one that starts there, and those after it.
 pub forms_at : {text : List ℕ} {at : ℕ} {span : Span} → LineAt text at span
@@ -34,8 +33,8 @@ no_forms text at h = rw (drop_of_length-le text h) refl
 
 -- The verdict on lines, by that on the first of them.
 module _ (number : ℕ) (names : List Letters) (gates : Bool) (form : Form) (rest : List Form) where
-  pub lines_refused : (r : Refusal) → verdict (line_checks number names gates form) ≡ Refused r
-      → verdict (lines_from number names gates (form ∷ rest)) ≡ Refused r
+  pub lines_refused : (r : Refusal) → verdict (line_checks number names gates form) ≡ Err r
+      → verdict (lines_from number names gates (form ∷ rest)) ≡ Err r
   unfolding lines_from
   lines_refused r e = refused_first (line_checks number names gates form) _ r e
 
@@ -62,11 +61,16 @@ none_taken text list table start gates =
 module _ {text list : List ℕ} {table table' : Table} {at number : ℕ} {span : Span} {v : Verdict}
     (taken : LinesTaken text list table at number) (line : LineAt text at span)
     (read : LineRead (line_form (take (span.end - at) (drop at text))) number list table table' v) where
-  pub taken_refused : (r : Refusal) → v ≡ Refused r → verdict (lines_from 1 [] false (forms_of text)) ≡ Refused r
-  taken_refused r e =
+  pub taken_refused : {r : Refusal} → v ≡ Err r → Begun text list table' (Err r)
+  taken_refused {r} e =
       let t = read taken.names taken.held in
-      taken.judged ∙ ap (λ forms. verdict (lines_from number taken.names table.gates forms)) (forms_at line)
-      ∙ lines_refused number taken.names table.gates _ _ r (sym t.judged ∙ e)
+      record {
+        refused = λ q same.
+            taken.judged ∙ ap (λ forms. verdict (lines_from number taken.names table.gates forms)) (forms_at line)
+            ∙ lines_refused number taken.names table.gates _ _ r (sym t.judged ∙ e)
+            ∙ (let e : r ≡ q = cc in ap Err e);
+        accepted = λ reached same. absurd (let z : ◌≡◌ {A = ℕ} 0 1 = cc in omega arith);
+      }
 
   pub taken_next : v ≡ Accepted → LinesTaken text list table' span.next (number + 1)
   unfolding records_from

@@ -13,20 +13,18 @@ use Rattle.laws.proofs.Tests.{and_left, and_right}
 use Rattle.excitation.specs.UncertaintySet.{◌∈◌, member, decode}
 use Rattle.excitation.proofs.Finite.{for_each}
 use Rattle.block.specs.Record.{File, net_count, byte_at, word_at, kind, pin_count, pin}
-use Rattle.block.specs.Verdict.{verdict}
+use Rattle.block.specs.Verdict.{verdict, Accepted}
 use Rattle.block.specs.Refusals.{read_checks, answer_to, read_of}
-use Rattle.block.specs.declared.Verdict.{Verdict}
-use Rattle.block.specs.declared.Verdict.TheVariants.{Accepted, Refused}
 use Rattle.block.proofs.Verdicts.{both_accepted}
 use Rattle.netlist.specs.Names.{Letters, same, known, all_known}
 use Rattle.netlist.specs.Forms.{Form, input, gate, none, kind_named, pins_allowed, form_right, given_by, names_of, forms_of}
 use Rattle.netlist.proofs.KnownWords.{same_turned, unknown_differs, all_known_at, StandsAt, known_stands}
 use Rattle.netlist.proofs.RightGates.{pins_few, gate_counted}
-use Rattle.bench.specs.declared.BenchAnswer.TheVariants.{Count}
 use Rattle.bench.specs.Checks.{names_right, lines_from}
 use Rattle.bench.specs.Records.{input_record, pin_net, gate_record, record_of, records_from}
-use Rattle.bench.specs.Bench.{BenchArguments, bench_records, text_checks, bench_checks, lent_checks, bench_verdict, bench_answer_after, overlaid}
+use Rattle.bench.specs.Bench.{BenchArguments, bench_records, text_checks, bench_checks, lent_checks, bench_verdict, overlaid}
 use Rattle.bench.specs.ReadsBack.{record_lines, OfRow, InputReadsBack, GateReadsBack, LineReadsBack, ReadsBack, BenchLaw}
+use Rattle.bench.proofs.Told.{accepted_told}
 use Rattle.bench.proofs.Lookups.{pin_net_lem}
 use Rattle.bench.proofs.KeptLines.{Giving, by_input, by_gate}
 use Rattle.bench.proofs.LineAmong.{names_append, records_append, records_length, as_many_names, line_passed, LineOf, line_of}
@@ -180,11 +178,6 @@ module _ (forms : List Form) (net : ℕ) (l : LineOf forms net) (accepted : verd
       rw (l.split, names_are l.before l.form l.after) (get_or-append (names_of l.before) _ [] i h') in
       rw (at_net, at_i) apart
 
--- A count is the answer to an accepted text alone.
-counted : (v : Verdict) (count n : ℕ) → Count count ≡ bench_answer_after v n → (v ≡ Accepted) × (count ≡ n)
-counted Accepted count n e = (refl, cc)
-counted (Refused r) count n e = absurd (let z : ◌≡◌ {A = ℕ} 0 1 = cc in omega arith)
-
 -- The records of an accepted text.
 records_back : (given : BenchArguments) → bench_verdict given ≡ Accepted → ReadsBack given (bench_records given)
 unfolding bench_verdict bench_checks text_checks bench_records read_of
@@ -206,7 +199,7 @@ pub bench_law : BenchLaw
 unfolding overlaid bench_records
 bench_law given count records' b =
     let made = bench_records given in
-    let c = counted (bench_verdict given) count (net_count made) b.answered in
+    let c = accepted_told (bench_verdict given) b.answered in
     let long = records_length given.list [] (forms_of given.text) in
     let written : records' ≡ made ++ drop (length made) given.records = rw c.0 at b.written in
     let file_is : take (20 * count) records' ≡ made = rw written (take_at made _ (20 * count) (omega arith)) in

@@ -1,14 +1,11 @@
 -- Bench netlists: the call (request 1).
-use Rattle.std.specs.Prelude.{ℕ, false, List, [], ◌++◌, ◌≡◌, length, drop}
+use Rattle.std.specs.Prelude.{ℕ, false, List, [], ◌++◌, ◌≡◌, length, drop, Result}
 use Rattle.block.specs.Record.{File, net_count}
 use Rattle.block.specs.Refusals.{read_checks}
-use Rattle.block.specs.Verdict.{Check, verdict}
-use Rattle.block.specs.declared.Verdict.{Verdict}
-use Rattle.block.specs.declared.Verdict.TheVariants.{Accepted, Refused}
-use Rattle.operation.specs.Operation.{buffer_after}
+use Rattle.block.specs.Verdict.{Check, verdict, Verdict}
+use Rattle.block.specs.declared.verdict.Refusal.{Refusal}
+use Rattle.operation.specs.Operation.{answer_after, buffer_after}
 use Rattle.netlist.specs.Forms.{forms_of}
-use Rattle.bench.specs.declared.BenchAnswer.{BenchAnswer}
-use Rattle.bench.specs.declared.BenchAnswer.TheVariants as answer_is
 use Rattle.bench.specs.Checks.{size_checks, rows_from, lines_from}
 use Rattle.bench.specs.Records.{records_from}
 
@@ -36,20 +33,16 @@ bench_checks given = lent_checks given ++ text_checks given
 unfoldable pub bench_verdict : BenchArguments → Verdict
 bench_verdict given = verdict (bench_checks given)
 
--- "The record count is returned", or the refusal.
-abbrev pub bench_answer_after : Verdict → ℕ → BenchAnswer
-bench_answer_after Accepted count = answer_is.Count count
-bench_answer_after (Refused r) count = answer_is.Refused r
-
 -- "Bytes past the records are unchanged."
 unfoldable pub overlaid : File → List ℕ → List ℕ
 overlaid made given = made ++ drop (length made) given
 
--- By a verdict, the answer and each byte of the record buffer, of which a refusal changes none.
-pub record Handed (v : Verdict) (made : File) (given : List ℕ) (answer : BenchAnswer) (records' : List ℕ) : Type 0 where
-  pub answered : answer ≡ bench_answer_after v (net_count made)
+-- By a verdict, the answer, "The record count is returned" or the refusal, and each byte of the record buffer, of which a refusal changes
+-- none.
+pub record Handed (v : Verdict) (made : File) (given : List ℕ) (answer : Result ℕ Refusal) (records' : List ℕ) : Type 0 where
+  pub answered : answer ≡ answer_after v (net_count made)
   pub written : records' ≡ buffer_after v (overlaid made given) given
 
 -- What Bench promises: by the verdict on all checks, its answer, and the record buffer as it leaves it.
-abbrev pub Benched : BenchArguments → BenchAnswer → List ℕ → Type 0
+abbrev pub Benched : BenchArguments → Result ℕ Refusal → List ℕ → Type 0
 Benched given answer records' = Handed (bench_verdict given) (bench_records given) given.records answer records'

@@ -2,12 +2,13 @@
 use Rattle.std.specs.Prelude.{ℕ, zero, suc, ◌+◌, ◌*◌, Bool, true, not, ◌&&◌, ◌||◌, List, [], ◌∷◌, ◌++◌, leb, eqb, get_or}
 use Rattle.block.specs.Refusals.{gate_in_range}
 use Rattle.block.specs.Verdict.{Check, check}
+use Rattle.block.specs.declared.verdict.Reason.TheVariants.{OutOfRange, WrongBuffer, WrongLine, WrongName}
 use Rattle.netlist.specs.Names.{Letters, known, all_known}
 use Rattle.netlist.specs.Forms.{Form, empty, input, output, gate, none, form_right, given_by, is_gate}
 
 -- "A record buffer below 20,480 bytes is 15, place 1; a list not of 64 bytes is 15, place 2." Both are given by their lengths.
 unfoldable pub size_checks : ℕ → ℕ → List Check
-size_checks list records = check 15 1 (leb 20480 records) ∷ check 15 2 (eqb list 64) ∷ []
+size_checks list records = check WrongBuffer 1 (leb 20480 records) ∷ check WrongBuffer 2 (eqb list 64) ∷ []
 
 -- "A list of eight rows for kinds 2 to 9 in order, each 8 bytes as bytes 1, 2 and 12 to 17 of a record": contact, delay, rise, fall, and
 -- the two bytes of each peak. Byte j of row r.
@@ -20,7 +21,7 @@ row_in_range list row = gate_in_range (row_byte list row 0) (row_byte list row 1
 
 unfoldable pub rows_from : List ℕ → ℕ → ℕ → List Check
 rows_from list row zero = []
-rows_from list row (suc n) = check 9 row (row_in_range list row) ∷ rows_from list (suc row) n
+rows_from list row (suc n) = check OutOfRange row (row_in_range list row) ∷ rows_from list (suc row) n
 
 -- "An INPUT after a gate": `gates` says whether an earlier line is a gate.
 abbrev pub in_place : Bool → Form → Bool
@@ -42,7 +43,7 @@ names_right names none = true
 -- 17; a name unknown or given twice is 18, after 17 on the same line."
 unfoldable pub line_checks : ℕ → List Letters → Bool → Form → List Check
 line_checks number names gates form =
-    check 17 number (form_right form && in_place gates form) ∷ check 18 number (names_right names form) ∷ []
+    check WrongLine number (form_right form && in_place gates form) ∷ check WrongName number (names_right names form) ∷ []
 
 -- The checks on lines from a number on, given the names of earlier lines and whether one of those is a gate.
 unfoldable pub lines_from : ℕ → List Letters → Bool → List Form → List Check

@@ -1,12 +1,11 @@
 -- Bench texts, and what the definitions say of them: each form of a line, each refusal, and the records of c17.
-use Rattle.std.specs.Prelude.{ℕ, zero, suc, ◌+◌, false, List, [], ◌∷◌, ◌++◌, ◌≡◌, length, take, drop, set}
+use Rattle.std.specs.Prelude.{ℕ, zero, suc, ◌+◌, false, List, [], ◌∷◌, ◌++◌, ◌≡◌, length, take, drop, set, Err}
 use Prim.Native.String.{String}
 use Rattle.laws.specs.Ascii.{ascii}
 use Rattle.laws.specs.Turn.{list_below}
 use Rattle.block.specs.Record.{File, net_count, kind, pin_count, pin}
-use Rattle.block.specs.Verdict.{refusal, verdict}
-use Rattle.block.specs.declared.Verdict.{Verdict}
-use Rattle.block.specs.declared.Verdict.TheVariants.{Accepted, Refused}
+use Rattle.block.specs.Verdict.{refusal, verdict, Verdict, Accepted}
+use Rattle.block.specs.declared.verdict.Reason.TheVariants.{NoFirstInput, MisplacedInput, OutOfRange, LateArrival, WrongBuffer, WrongLine, WrongName}
 use Rattle.netlist.specs.Forms.{empty, input, output, gate, none, line_form, forms_of, kind_named}
 use Rattle.bench.specs.Checks.{size_checks, rows_from, lines_from}
 use Rattle.bench.specs.Records.{gate_record}
@@ -86,30 +85,30 @@ pub record BenchExamples : Type 0 where
   pub kind_words_lem : (kind_named (ascii "AND") ≡ 2) × (kind_named (ascii "BUF") ≡ 9) × (kind_named (ascii "and") ≡ 0)
   pub buff : kind_named (ascii "BUFF") ≡ 9
   -- Refusal 17: no form, a kind in small letters, five pins, an INPUT after a gate, a name of 17 letters.
-  pub refused_form : on_lines (line "INPUT(a)" ++ line "b=NOT(a)c") ≡ Refused (refusal 17 2)
-  pub refused_kind : on_lines (line "INPUT(a)" ++ line "b=not(a)") ≡ Refused (refusal 17 2)
-  pub refused_pins : on_lines (line "INPUT(a)" ++ line "b=AND(a,a,a,a,a)") ≡ Refused (refusal 17 2)
+  pub refused_form : on_lines (line "INPUT(a)" ++ line "b=NOT(a)c") ≡ Err (refusal WrongLine 2)
+  pub refused_kind : on_lines (line "INPUT(a)" ++ line "b=not(a)") ≡ Err (refusal WrongLine 2)
+  pub refused_pins : on_lines (line "INPUT(a)" ++ line "b=AND(a,a,a,a,a)") ≡ Err (refusal WrongLine 2)
   pub accepted_pins : on_lines (line "INPUT(a)" ++ line "b=AND(a,a,a,a)") ≡ Accepted
-  pub refused_input : on_lines (line "INPUT(a)" ++ line "b=NOT(a)" ++ line "" ++ line "INPUT(c)") ≡ Refused (refusal 17 4)
-  pub refused_long_name : on_lines (line "INPUT(abcdefghijklmnopq)") ≡ Refused (refusal 17 1)
+  pub refused_input : on_lines (line "INPUT(a)" ++ line "b=NOT(a)" ++ line "" ++ line "INPUT(c)") ≡ Err (refusal WrongLine 4)
+  pub refused_long_name : on_lines (line "INPUT(abcdefghijklmnopq)") ≡ Err (refusal WrongLine 1)
   pub accepted_long_name : on_lines (line "INPUT(abcdefghijklmnop)") ≡ Accepted
   -- Refusal 18: a name unknown, given twice, or a gate's own. On one line 17 comes first.
-  pub refused_unknown : on_lines (line "INPUT(a)" ++ line "b=NOT(A)") ≡ Refused (refusal 18 2)
-  pub refused_twice : on_lines (line "INPUT(a)" ++ line "a=NOT(a)") ≡ Refused (refusal 18 2)
-  pub refused_own : on_lines (line "INPUT(a)" ++ line "b=NOT(b)") ≡ Refused (refusal 18 2)
-  pub refused_both : on_lines (line "INPUT(a)" ++ line "a=AND(b)") ≡ Refused (refusal 17 2)
+  pub refused_unknown : on_lines (line "INPUT(a)" ++ line "b=NOT(A)") ≡ Err (refusal WrongName 2)
+  pub refused_twice : on_lines (line "INPUT(a)" ++ line "a=NOT(a)") ≡ Err (refusal WrongName 2)
+  pub refused_own : on_lines (line "INPUT(a)" ++ line "b=NOT(b)") ≡ Err (refusal WrongName 2)
+  pub refused_both : on_lines (line "INPUT(a)" ++ line "a=AND(b)") ≡ Err (refusal WrongLine 2)
   pub accepted_output : on_lines (line "OUTPUT(b)") ≡ Accepted
   -- Refusals 15, of which place 1 comes first, and 9, with the row as place.
-  pub refused_buffer : (verdict (size_checks 64 20479) ≡ Refused (refusal 15 1)) × (verdict (size_checks 0 0) ≡ Refused (refusal 15 1))
-  pub refused_list : (verdict (size_checks 63 20480) ≡ Refused (refusal 15 2)) × (verdict (size_checks 65 20480) ≡ Refused (refusal 15 2))
-  pub refused_row : verdict (rows_from (set rows 25 0) 0 8) ≡ Refused (refusal 9 3)
+  pub refused_buffer : (verdict (size_checks 64 20479) ≡ Err (refusal WrongBuffer 1)) × (verdict (size_checks 0 0) ≡ Err (refusal WrongBuffer 1))
+  pub refused_list : (verdict (size_checks 63 20480) ≡ Err (refusal WrongBuffer 2)) × (verdict (size_checks 65 20480) ≡ Err (refusal WrongBuffer 2))
+  pub refused_row : verdict (rows_from (set rows 25 0) 0 8) ≡ Err (refusal OutOfRange 3)
   -- What is lent comes before the text.
-  pub refused_call : bench_verdict (call (line "a") []) ≡ Refused (refusal 15 1)
+  pub refused_call : bench_verdict (call (line "a") []) ≡ Err (refusal WrongBuffer 1)
   -- Refusal 3, as Read makes it of no record.
-  pub refused_empty : (on_text [] ≡ Refused (refusal 3 0)) × (on_text (line "OUTPUT(a)") ≡ Refused (refusal 3 0))
+  pub refused_empty : (on_text [] ≡ Err (refusal NoFirstInput 0)) × (on_text (line "OUTPUT(a)") ≡ Err (refusal NoFirstInput 0))
   -- Refusals 5, of a 65th input, and 10, of the first gate that arrives after tick 255, as Read makes them, each with its net.
-  pub refused_inputs : (on_text inputs ≡ Accepted) × (on_text (inputs ++ line "INPUT(i)") ≡ Refused (refusal 5 64))
-  pub refused_arrival : (on_slow_text chain ≡ Accepted) × (on_slow_text (chain ++ line "f=BUF(e)") ≡ Refused (refusal 10 5))
+  pub refused_inputs : (on_text inputs ≡ Accepted) × (on_text (inputs ++ line "INPUT(i)") ≡ Err (refusal MisplacedInput 64))
+  pub refused_arrival : (on_slow_text chain ≡ Accepted) × (on_slow_text (chain ++ line "f=BUF(e)") ≡ Err (refusal LateArrival 5))
   -- Each byte of three records: pins as written, and the row of the gate's kind.
   pub turned_records : records turned
       ≡ (1 ∷ 0 ∷ 0 ∷ 0 ∷ 0 ∷ 0 ∷ 0 ∷ 0 ∷ 0 ∷ 0 ∷ 0 ∷ 0 ∷ 0 ∷ 0 ∷ 0 ∷ 0 ∷ 0 ∷ 0 ∷ 15 ∷ 0

@@ -1,10 +1,9 @@
 -- What the code holds of a text while it goes through the lines, and what its functions promise.
-use Rattle.std.specs.Prelude.{ℕ, ◌+◌, ◌*◌, ◌≤◌, ◌<◌, Bool, true, false, cond, ◌&&◌, ◌||◌, Option, Some, None, List, [], ◌∷◌, ◌++◌, map, ◌≡◌, leb, length, take, drop}
+use Rattle.std.specs.Prelude.{ℕ, ◌+◌, ◌*◌, ◌≤◌, ◌<◌, Bool, true, false, cond, ◌&&◌, ◌||◌, Option, Some, None, List, [], ◌∷◌, ◌++◌, map, ◌≡◌, leb, length, take, drop, Result, Ok, Err}
 use Rattle.block.specs.Refusals.{read_checks}
-use Rattle.block.specs.Verdict.{verdict}
-use Rattle.block.specs.declared.Refusal.{Refusal}
-use Rattle.block.specs.declared.Verdict.{Verdict}
-use Rattle.block.specs.declared.Verdict.TheVariants.{Accepted, Refused}
+use Rattle.block.specs.Verdict.{verdict, Verdict, Accepted}
+use Rattle.block.specs.declared.verdict.Refusal.{Refusal}
+use Rattle.operation.specs.Operation.{answer_after}
 use Rattle.netlist.specs.Names.{Letters, is_name, are_names, known, all_known}
 use Rattle.netlist.specs.Forms.{Form, input, gate, forms_of, form_right, given_by, names_of, is_gate}
 use Rattle.netlist.specs.Kept.{name_kept, names_kept, gate_kept, same_name, right_kept}
@@ -14,7 +13,6 @@ use Rattle.netlist.specs.declared.Line.TheVariants as line
 use Rattle.netlist.specs.declared.Name.{Name}
 use Rattle.netlist.specs.declared.Names.{Names}
 use Rattle.bench.specs.declared.Earlier.{Earlier}
-use Rattle.bench.specs.declared.Later.{Later}
 use Rattle.bench.specs.declared.Progress.{Progress}
 use Rattle.bench.specs.declared.Table.{Table}
 use Rattle.bench.specs.Checks.{line_checks, lines_from}
@@ -80,10 +78,10 @@ pub record LinesTaken (text list : List ℕ) (table : Table) (at number : ℕ) :
   pub numbered : number ≤ at + 1
 
 -- The lines from the first on, up to the 1,024th record: the refusal of one of them, or what was taken, of a text with fewer records all.
-pub record Begun (text list : List ℕ) (table : Table) (progress : Progress) : Type 0 where
-  pub refused : (r : Refusal) → progress.verdict ≡ Refused r → verdict (lines_from 1 [] false (forms_of text)) ≡ Refused r
-  pub accepted : progress.verdict ≡ Accepted
-      → LinesTaken text list table progress.at progress.number × (table.count < 1024 → progress.at ≡ length text)
+pub record Begun (text list : List ℕ) (table : Table) (progress : Result Progress Refusal) : Type 0 where
+  pub refused : (r : Refusal) → progress ≡ Err r → verdict (lines_from 1 [] false (forms_of text)) ≡ Err r
+  pub accepted : (reached : Progress) → progress ≡ Ok reached
+      → LinesTaken text list table reached.at reached.number × (table.count < 1024 → reached.at ≡ length text)
 
 -- Whether every line is right by itself.
 unfoldable pub all_right : List Form → Bool
@@ -127,17 +125,15 @@ JudgedIn forms kept given number gates r =
     (names : List Letters) (form : Form) → Held names kept → all_right forms ≡ true → given ≡ right_kept form
     → form_right form ≡ true → r ≡ verdict (line_checks number (names ++ names_of forms) gates form)
 
--- Their verdict, and whether one of them gives a record.
-pub record LaterJudged (names : List Letters) (gates : Bool) (number : ℕ) (forms : List Form) (later : Later) : Type 0 where
-  pub judged : later.verdict ≡ verdict (lines_from number names gates forms)
-  pub more : later.verdict ≡ Accepted → later.more ≡ leb 1 (length (names_of forms))
-
-abbrev pub JudgedLater : List Form → List Name → ℕ → Bool → Later → Type 0
-JudgedLater forms kept number gates later = (names : List Letters) → Held names kept → LaterJudged names gates number forms later
+-- Whether one of them gives a record, or their refusal.
+abbrev pub JudgedLater : List Form → List Name → ℕ → Bool → Result Bool Refusal → Type 0
+JudgedLater forms kept number gates later =
+    (names : List Letters) → Held names kept
+    → later ≡ answer_after (verdict (lines_from number names gates forms)) (leb 1 (length (names_of forms)))
 
 -- All lines taken: the refusal of a line, or of a 1,025th record, or all the records.
 pub record TextTaken (text list : List ℕ) (table : Table) (v : Verdict) : Type 0 where
-  pub refused : (q : Refusal) → v ≡ Refused q
-      → verdict (lines_from 1 [] false (forms_of text) ++ read_checks (records_from list [] (forms_of text))) ≡ Refused q
+  pub refused : (q : Refusal) → v ≡ Err q
+      → verdict (lines_from 1 [] false (forms_of text) ++ read_checks (records_from list [] (forms_of text))) ≡ Err q
   pub accepted : v ≡ Accepted
       → (verdict (lines_from 1 [] false (forms_of text)) ≡ Accepted) × (records_from list [] (forms_of text) ≡ made_records table)

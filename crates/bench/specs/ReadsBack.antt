@@ -1,14 +1,12 @@
 -- What is true of an accepted text, in the request's words: "Records stand in line order and read back as the same gates, pins as written."
-use Rattle.std.specs.Prelude.{ℕ, ◌+◌, ◌-◌, ◌*◌, ◌<◌, false, List, [], ◌∷◌, ◌≡◌, length, get_or, take}
+use Rattle.std.specs.Prelude.{ℕ, ◌+◌, ◌-◌, ◌*◌, ◌<◌, false, List, [], ◌∷◌, ◌≡◌, length, get_or, take, Ok}
 use Rattle.excitation.specs.declared.Excitation.{Excitation}
 use Rattle.excitation.specs.UncertaintySet.{◌∈◌, decode}
 use Rattle.block.specs.Block.{input_count}
 use Rattle.block.specs.Record.{File, net_count, kind, contact, delay, pin_count, pin, rise, fall, peak_lh, peak_hl, allowed}
-use Rattle.block.specs.Refusals.{read_of}
-use Rattle.block.specs.declared.ReadAnswer.TheVariants.{Counts}
+use Rattle.block.specs.Refusals.{counts, read_of}
 use Rattle.netlist.specs.Names.{Letters, same}
 use Rattle.netlist.specs.Forms.{Form, empty, input, output, gate, none, kind_named, names_of, forms_of}
-use Rattle.bench.specs.declared.BenchAnswer.TheVariants.{Count}
 use Rattle.bench.specs.Checks.{row_byte}
 use Rattle.bench.specs.Bench.{BenchArguments, Benched}
 
@@ -56,7 +54,7 @@ LineReadsBack list names none file net = ⊥
 -- An accepted text: its records are a block that Read accepts, with as many nets as lines give records; record i reads back as line i of
 -- those; names are all different.
 pub record ReadsBack (given : BenchArguments) (file : File) : Type 0 where
-  pub read : read_of file ≡ Counts (net_count file) (input_count file)
+  pub read : read_of file ≡ Ok (counts (net_count file) (input_count file))
   pub as_many : net_count file ≡ length (record_lines (forms_of given.text))
   pub line : (net : ℕ) → net < net_count file
       → LineReadsBack given.list (names_of (forms_of given.text)) (get_or (record_lines (forms_of given.text)) net none) file net
@@ -66,5 +64,5 @@ pub record ReadsBack (given : BenchArguments) (file : File) : Type 0 where
 -- The law, over the call: the first 20 × count bytes of the record buffer, as they stand at return.
 abbrev pub BenchLaw : Type 0
 BenchLaw =
-    (given : BenchArguments) (count : ℕ) (records' : List ℕ) → Benched given (Count count) records'
+    (given : BenchArguments) (count : ℕ) (records' : List ℕ) → Benched given (Ok count) records'
     → (count ≡ net_count (take (20 * count) records')) × ReadsBack given (take (20 * count) records')

@@ -7,7 +7,7 @@ ghost use Rattle.block.specs.Refusals.{read_checks};
 ghost use Rattle.bench.specs.Checks.{size_checks, rows_from, row_in_range};
 ghost use Rattle.bench.specs.Bench.{Handed, text_checks, bench_records, Benched};
 
-use block::{ReadAnswer, Refusal, Verdict};
+use block::{Reason, Refusal, check};
 use netlist::Name;
 
 mod lookup;
@@ -15,13 +15,6 @@ mod making;
 mod overflow;
 mod tables;
 mod walk;
-
-// What Bench answers: how many records there are, or the refusal.
-#[derive(Clone, Copy)]
-pub enum BenchAnswer {
-    Count(u64),
-    Refused(Refusal),
-}
 
 // The records of the lines taken so far: their names and their bytes, how many they are, and whether one of them is a gate's.
 #[derive(Drop)]
@@ -34,10 +27,9 @@ pub struct Table {
     ghost sized: { length records ≡ 20480 },
 }
 
-// How far the lines were taken: the verdict on them, and the byte and the number of the next line.
+// How far the lines were taken: the byte and the number of the next line.
 #[derive(Clone, Copy)]
 pub struct Progress {
-    pub verdict: Verdict,
     pub at: usize,
     pub number: usize,
 }
@@ -50,13 +42,6 @@ pub struct Earlier<'a> {
     pub from: usize,
     pub lines: usize,
     ghost inside: { from ≤ length text.now },
-}
-
-// What later lines come to: their verdict, and whether one of them gives a record.
-#[derive(Clone, Copy)]
-pub struct Later {
-    pub verdict: Verdict,
-    pub more: bool,
 }
 
 // Whether a row of the list is one that a gate may have.
@@ -74,67 +59,51 @@ fn row_in_range(list: &[u8], row: usize) -> bool
 }
 
 // Check 9 on the eight rows.
-fn check_rows(list: &[u8]) -> Verdict
+fn check_rows(list: &[u8]) -> Result<(), Refusal>
     requires { length list.now ≡ 64 }
     ensures { result ≡ verdict (rows_from list.now 0 8) }
 {
     for row in 0..8 {
-        if !row_in_range(list, row) {
-            return Verdict::Refused(Refusal {
-                number: 9,
-                place: row as u64,
-            });
-        }
+        check(Reason::OutOfRange, row as u64, row_in_range(list, row))?;
     }
-    Verdict::Accepted
+    Ok(())
 }
 
 // Checks 15 and 9, on the record buffer and the list.
-fn check_given(list: &[u8], records: usize) -> Verdict
+#[tactic(auto, using(block::proofs::Verdicts::judging, block::proofs::Verdicts::holds), unfolding(crate::specs::Checks::size_checks))]
+fn check_given(list: &[u8], records: usize) -> Result<(), Refusal>
     ensures { result ≡ verdict (size_checks (length list.now) records ++ rows_from list.now 0 8) }
 {
-    let sizes = Verdict::Accepted
-        .also(15, 1, 20480 <= records)
-        .also(15, 2, list.len() == 64);
-    match sizes {
-        Verdict::Refused(r) => Verdict::Refused(r),
-        Verdict::Accepted => check_rows(list),
-    }
+    check(Reason::WrongBuffer, 1, 20480 <= records)?;
+    check(Reason::WrongBuffer, 2, list.len() == 64)?;
+    check_rows(list)
 }
 
 // Copies the records that were made into the lent buffer, if Read accepts them.
-fn hand_over(made: &[u8], records: &mut [u8]) -> BenchAnswer
+fn hand_over(made: &[u8], records: &mut [u8]) -> Result<usize, Refusal>
     requires { length made.now ≤ length records.old }
     ensures { Handed (verdict (read_checks made.now)) made.now records.old result records.new }
 {
-    match block::read(made) {
-        ReadAnswer::Refused(r) => BenchAnswer::Refused(r),
-        ReadAnswer::Counts { nets, inputs: _ } => {
-            records[..made.len()].copy_from_slice(made);
-            BenchAnswer::Count(nets)
-        }
-    }
+    let counts = block::read(made)?;
+    records[..made.len()].copy_from_slice(made);
+    Ok(counts.nets)
 }
 
 // Takes the lines of a text and makes their records in a table of its own, so that the lent buffer is written only once every check has
 // passed.
-fn make(text: &[u8], list: &[u8], records: &mut [u8]) -> BenchAnswer
+fn make(text: &[u8], list: &[u8], records: &mut [u8]) -> Result<usize, Refusal>
     requires { (length list.now ≡ 64) × (20480 ≤ length records.old) }
     ensures { Handed (verdict (text_checks (record { text = text.now; list = list.now; records = records.old }))) (bench_records (record { text = text.now; list = list.now; records = records.old })) records.old result records.new }
 {
     let mut table = Table::new();
-    match walk::take_text(text, list, &mut table) {
-        Verdict::Refused(r) => BenchAnswer::Refused(r),
-        Verdict::Accepted => hand_over(table.made(), records),
-    }
+    walk::take_text(text, list, &mut table)?;
+    hand_over(table.made(), records)
 }
 
 // Bench: the records of a text, each gate's delay, contact, pulse and peaks from the row of its kind.
-pub fn bench(text: &[u8], list: &[u8], records: &mut [u8]) -> BenchAnswer
+pub fn bench(text: &[u8], list: &[u8], records: &mut [u8]) -> Result<usize, Refusal>
     ensures { Benched (record { text = text.now; list = list.now; records = records.old }) result records.new }
 {
-    match check_given(list, records.len()) {
-        Verdict::Refused(r) => BenchAnswer::Refused(r),
-        Verdict::Accepted => make(text, list, records),
-    }
+    check_given(list, records.len())?;
+    make(text, list, records)
 }

@@ -1,14 +1,12 @@
 // The lines after the 1,024th record. No table has their names: they are looked up in the text itself. A text in which one of them gives
 // a record is refused in any case.
-ghost use Rattle.std.specs.Prelude.{◌≡◌, false, ◌+◌, ◌≤◌, length, drop};
-ghost use Rattle.block.specs.Verdict.{refusal};
-ghost use Rattle.block.specs.declared.Verdict.TheVariants.{Refused};
+ghost use Rattle.std.specs.Prelude.{◌≡◌, ◌+◌, ◌≤◌, length, drop};
 ghost use Rattle.netlist.specs.Forms.{forms_of};
 ghost use Rattle.bench.specs.Held.{gives, forms_before, FewPins, GivenIn, KnownIn, AllKnownIn, JudgedIn, JudgedLater};
 
 use super::lookup;
-use crate::{Earlier, Later};
-use block::{Refusal, Verdict};
+use crate::Earlier;
+use block::{Reason, Refusal, check};
 use netlist::{Line, Name, Names};
 
 // Whether a line gives a name.
@@ -62,30 +60,35 @@ impl Earlier<'_> {
     }
 
     // Judges a line that has passed check 17 by itself.
-    fn judge(&self, line: Line, number: usize, gates: bool) -> Verdict
+    fn judge(&self, line: Line, number: usize, gates: bool) -> Result<(), Refusal>
         requires { FewPins line }
         ensures { JudgedIn (forms_before self.now) self.now.names.now line number gates result }
     {
         let place = number as u64;
         match line {
-            Line::Nothing => Verdict::Accepted,
+            Line::Nothing => Ok(()),
             Line::Input(name) => {
                 let new = !self.knows(name);
-                Verdict::Accepted
-                    .also(17, place, !gates)
-                    .also(18, place, new)
+                check(Reason::WrongLine, place, !gates)?;
+                check(Reason::WrongName, place, new)
             }
             Line::Gate(gate) => {
                 let new = !self.knows(gate.name);
                 let found = self.knows_all(gate.pins);
-                Verdict::Accepted.also(18, place, new & found)
+                check(Reason::WrongName, place, new & found)
             }
         }
     }
 }
 
-// Judges the lines from byte `from` on, the first of which has the given number.
-pub fn judge_later(text: &[u8], from: usize, number: usize, gates: bool, names: &[Name]) -> Later
+// Judges the lines from byte `from` on, the first of which has the given number: whether one of them gives a record.
+pub fn judge_later(
+    text: &[u8],
+    from: usize,
+    number: usize,
+    gates: bool,
+    names: &[Name],
+) -> Result<bool, Refusal>
     requires { (from ≤ length text.now) × (number ≤ from + 1) }
     ensures { JudgedLater (forms_of (drop from text.now)) names.now number gates result }
 {
@@ -96,42 +99,22 @@ pub fn judge_later(text: &[u8], from: usize, number: usize, gates: bool, names: 
     // Form kept: no range fits, since only where a line ends tells where the next one starts; an iterator of lines would be a type more.
     while at < text.len() {
         let span = netlist::line_at(text, at);
-        let Some(line) = netlist::read_line(&text[at..span.end]) else {
-            return refused_at(number + passed);
+        let wrong = Refusal {
+            reason: Reason::WrongLine,
+            place: (number + passed) as u64,
         };
+        let line = netlist::read_line(&text[at..span.end]).ok_or(wrong)?;
         let earlier = Earlier {
             names,
             text,
             from,
             lines: passed,
         };
-        let verdict = earlier.judge(line, number + passed, after);
-        if let Verdict::Refused(r) = verdict {
-            return Later {
-                verdict: Verdict::Refused(r),
-                more,
-            };
-        }
+        earlier.judge(line, number + passed, after)?;
         at = span.next;
         passed += 1;
         after |= line.is_gate();
         more |= line.name().is_some();
     }
-    Later {
-        verdict: Verdict::Accepted,
-        more,
-    }
-}
-
-// A line that fits no form.
-fn refused_at(number: usize) -> Later
-    ensures { result ≡ record { verdict = Refused (refusal 17 number); more = false } }
-{
-    Later {
-        verdict: Verdict::Refused(Refusal {
-            number: 17,
-            place: number as u64,
-        }),
-        more: false,
-    }
+    Ok(more)
 }

@@ -2,13 +2,12 @@
 -- Assumes nothing.
 use mathlib.Core.Path.{refl}
 use lib.Seq.{take-length}
+use Rattle.block.proofs.Verdicts.{handed_on}
 use Rattle.bench.proofs.Handing.{read_refuses, read_counts}
 use Rattle.bench.proofs.hand_over.Goals as goal
 
-pub returns-in-Refused : goal.returns-in-Refused
-returns-in-Refused c = read_refuses _ _ _ c.read.ensures c.in-Refused.is
+pub returns-in_err-counts : goal.returns-in_err-counts
+returns-in_err-counts c = rw (handed_on c.from_residual.ensures.1 refl) (read_refuses _ _ _ c.read.ensures c.in_err-counts.was)
 
-pub returns-in-Counts : goal.returns-in-Counts
-returns-in-Counts c =
-    let read = c.read.ensures in
-    read_counts _ _ read c.in-Counts.is (rw (c.copy_from_slice.ensures.after, take-length c.args.made.now) refl)
+pub returns : goal.returns
+returns c = read_counts _ _ c.read.ensures c.in_ok-counts.was (rw (c.copy_from_slice.ensures.after, take-length c.args.made.now) refl)

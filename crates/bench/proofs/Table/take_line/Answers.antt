@@ -1,10 +1,13 @@
 -- `bench::Table::take_line` meets its contract.
 -- Assumes nothing.
 use Prim.Native.Nat.{◌≤◌}
-use mathlib.Core.Path.{sym, ◌∙◌}
+use mathlib.Core.Path.{sym, ap, ◌∙◌}
+use Rattle.std.specs.Prelude.{Err}
+use Rattle.block.proofs.Verdicts.{handed_on}
 use Rattle.netlist.specs.Forms.{line_form}
 use Rattle.netlist.proofs.RightGates.{kind_high, gate_kind, gate_few}
 use Rattle.bench.specs.Held.{LineRead}
+use Rattle.bench.proofs.Told.{missing, there}
 use Rattle.bench.proofs.KeptLines.{line_wrong, line_right, input_told, gate_told}
 use Rattle.bench.proofs.Taking.{wrong_taken, nothing_taken}
 use Rattle.bench.proofs.Table.take_line.Goals as goal
@@ -12,34 +15,36 @@ use Rattle.bench.proofs.Table.take_line.Goals as goal
 pub take_gate-requires : goal.take_gate-requires
 take_gate-requires c =
     let form = line_form c.args.bytes.now in
-    let right = line_right form c.read_line.ensures c.in-Some-Gate.is in
-    let given = c.in-Some-Gate.gate in
-    let fits = gate_told (λ form. (2 ≤ given.kind) × (given.kind ≤ 9) × (given.pins.used ≤ 4)) form right.0 (sym c.in-Some-Gate.field-0-is ∙ right.1)
+    let right = line_right form c.read_line.ensures (there _ _ c.ok_or.ensures.value c.in_ok-ok_or.was) in
+    let given = c.in-Gate.gate in
+    let fits = gate_told (λ form. (2 ≤ given.kind) × (given.kind ≤ 9) × (given.pins.used ≤ 4)) form right.0 (sym c.in-Gate.is ∙ right.1)
     (λ name word pins fits same.
     rw same (gate_kind name word pins fits, kind_high word, gate_few name word pins fits)) in
     (c.requires.0, c.requires.1, fits.0, fits.1, fits.2)
 
-pub returns-in-None : goal.returns-in-None
-returns-in-None c names held =
-    wrong_taken c.args.list.now c.args.self.now names c.args.number (line_form c.args.bytes.now)
-    (line_wrong (line_form c.args.bytes.now) c.read_line.ensures c.in-None.is)
+pub returns-in_err-ok_or : goal.returns-in_err-ok_or
+returns-in_err-ok_or c names held =
+    let line = missing _ _ c.ok_or.ensures.value c.in_err-ok_or.was in
+    rw (handed_on c.from_residual.ensures.1 (ap Err line.1))
+    (wrong_taken c.args.list.now c.args.self.now names c.args.number (line_form c.args.bytes.now)
+    (line_wrong (line_form c.args.bytes.now) c.read_line.ensures line.0))
 
-pub returns-in-Some-Nothing : goal.returns-in-Some-Nothing
-returns-in-Some-Nothing c names held =
-    let right = line_right (line_form c.args.bytes.now) c.read_line.ensures c.in-Some-Nothing.is in
-    nothing_taken c.args.list.now c.args.self.now names c.args.number (line_form c.args.bytes.now) held right.0 (sym c.in-Some-Nothing.field-0-is ∙ right.1)
+pub returns-in-Nothing : goal.returns-in-Nothing
+returns-in-Nothing c names held =
+    let right = line_right (line_form c.args.bytes.now) c.read_line.ensures (there _ _ c.ok_or.ensures.value c.in_ok-ok_or.was) in
+    nothing_taken c.args.list.now c.args.self.now names c.args.number (line_form c.args.bytes.now) held right.0 (sym c.in-Nothing.is ∙ right.1)
 
-pub returns-in-Some-Input : goal.returns-in-Some-Input
-returns-in-Some-Input c =
+pub returns-in-Input : goal.returns-in-Input
+returns-in-Input c =
     let form = line_form c.args.bytes.now in
-    let right = line_right form c.read_line.ensures c.in-Some-Input.is in
+    let right = line_right form c.read_line.ensures (there _ _ c.ok_or.ensures.value c.in_ok-ok_or.was) in
     input_told (λ form. LineRead form c.args.number c.args.list.now c.args.self.now c.take_input.new.self c.take_input.result) form right.0
-    (sym c.in-Some-Input.field-0-is ∙ right.1)
+    (sym c.in-Input.is ∙ right.1)
     (λ word proper named. c.take_input.ensures word c.args.list.now proper named)
 
-pub returns-in-Some-Gate : goal.returns-in-Some-Gate
-returns-in-Some-Gate c =
+pub returns-in-Gate : goal.returns-in-Gate
+returns-in-Gate c =
     let form = line_form c.args.bytes.now in
-    let right = line_right form c.read_line.ensures c.in-Some-Gate.is in
+    let right = line_right form c.read_line.ensures (there _ _ c.ok_or.ensures.value c.in_ok-ok_or.was) in
     gate_told (λ form. LineRead form c.args.number c.args.list.now c.args.self.now c.take_gate.new.self c.take_gate.result) form right.0
-    (sym c.in-Some-Gate.field-0-is ∙ right.1) c.take_gate.ensures
+    (sym c.in-Gate.is ∙ right.1) c.take_gate.ensures
