@@ -15,7 +15,7 @@ use Rattle.operation.specs.declared.Outcome.TheVariants.{Exact, Within, Spent}
 use Rattle.evaluation.specs.Evaluation.{currents_of}
 use Rattle.simulator.specs.Simulate.{SimulateArguments, given_sheet, simulate_answer, Simulated}
 use Rattle.search.specs.Agreement.{sharing, Agrees}
-use Rattle.search.specs.Search.{SearchArguments, search_verdict, found_by, search_answer_after, Searched}
+use Rattle.search.specs.Search.{SearchArguments, search_verdict, found_by, Searched}
 use Rattle.search.proofs.Agreement.{agreement}
 use Rattle.zimgurav.specs.Accepted.{refused_with}
 use Rattle.zimgurav.specs.Agreement.{drop_answered, quiet_answered, CallsAgree, CallsAgreement}
@@ -91,7 +91,7 @@ pub calls_agree : CallsAgreement
 calls_agree given sheet' pattern' work' store' numbers call zero =
     let passed : search_verdict given ≡ Accepted = (accepted_calls.search given _ _ _ _ _ call).zero_means zero in
     let found_is : call.answer ≡ Ok (found_by given) =
-    call.searched.answered ∙ ap (λ v. search_answer_after v (found_by given)) passed in
+    call.searched.answered ∙ ap (λ v. answer_after v (found_by given)) passed in
     let searched : Searched given (Ok (found_by given)) sheet' pattern' work' store' =
     subst (λ answer. Searched given answer sheet' pattern' work' store') found_is call.searched in
     subst (CallsAgree given sheet' pattern') (sym (call.numbered ∙ ap search_numbers found_is))

@@ -1,6 +1,7 @@
 -- What the calls of the makers leave in the lent list, and what their lists are to the search.
 -- Assumes nothing.
-use Rattle.std.specs.Prelude.{Ok, Err}
+use Rattle.block.specs.declared.verdict.Refusal.{Refusal}
+use Rattle.std.specs.Prelude.{Result, Ok, Err}
 use Rattle.block.specs.Verdict.{Verdict, Accepted}
 use Prim.Native.Nat.{ℕ}
 use mathlib.Core.Bool.{true}
