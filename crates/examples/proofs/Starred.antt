@@ -1,5 +1,6 @@
 -- Document 01's starred examples, by evaluation.
 -- Assumes nothing.
+use Rattle.block.specs.Verdict.{Accepted}
 use Prim.Native.Nat.{ℕ, max}
 use mathlib.Core.Bool.{false}
 use mathlib.Core.List.{List, [], ◌∷◌}
@@ -20,7 +21,6 @@ use Rattle.block.specs.Record.{File, is_input}
 use Rattle.block.specs.Refusals.{within, read_of}
 use Rattle.block.specs.Verdict.{verdict}
 use Rattle.block.specs.View.{gate_of}
-use Rattle.block.specs.declared.Verdict.TheVariants.{Accepted}
 use Rattle.block.proofs.Examples.{block_examples}
 use Rattle.sheet.specs.Sheet.{Sheet, drop_at, drop_of, flows_at, quiet_tick}
 use Rattle.sheet.proofs.QuietTick.{quiet_same}
