@@ -10,12 +10,13 @@ ghost use Rattle.block.specs.Refusals.{file_checks, read_of};
 mod checks;
 mod kind;
 mod reader;
-pub mod record;
+mod record;
 mod verdict;
 pub mod view;
 
 pub use checks::{gate_in_range, in_range};
 pub use kind::{Rule, gate_rule};
+pub use record::Record;
 pub use verdict::{Reason, Refusal, check};
 
 // A net's number: the position of its record in the file.
@@ -84,6 +85,6 @@ pub fn frame_codes(file: &[u8], inputs: usize, codes: &mut [u8])
     ensures { Rewritten (allowed file.now) 0 inputs codes.old codes.new }
 {
     for net in 0..inputs {
-        codes[net] = record::allowed(file, Net(net)) as u8;
+        codes[net] = Record::of(file, Net(net)).allowed() as u8;
     }
 }

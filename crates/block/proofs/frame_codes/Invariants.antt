@@ -6,4 +6,4 @@ use Rattle.block.specs.Record.{allowed}
 use Rattle.block.proofs.frame_codes.Given as goal
 
 abbrev pub invariant-loop-net : goal.invariant-loop-net
-invariant-loop-net l = (l.net ≤ l.inputs) × Rewritten (allowed l.file) 0 l.net l.initial.codes l.codes
+invariant-loop-net l = Rewritten (allowed l.file) 0 l.net l.initial.codes l.codes

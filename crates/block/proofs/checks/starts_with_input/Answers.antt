@@ -1,6 +1,6 @@
 -- `block::checks::starts_with_input` meets its contract.
 -- Assumes nothing.
-use mathlib.Core.Path.{refl, ap}
+use mathlib.Core.Path.{refl, ap, ◌∙◌}
 use lib.Dec.{eqb}
 use borrow.Author.Tests.{lt-leb, le-leb}
 use Rattle.block.specs.Record.{is_input}
@@ -13,4 +13,4 @@ returns-then-file-lt1 c = rw (lt-leb _ _ c.if-file-lt1.true) refl
 
 pub returns : goal.returns
 unfolding starts_with_input is_input
-returns c = rw (le-leb _ _ c.if-file-lt1.false) (ap (λ k. eqb k 1) c.kind.ensures.0)
+returns c = rw (le-leb _ _ c.if-file-lt1.false) (ap (λ k. eqb k 1) (c.kind.ensures.0 ∙ rw (c.of.ensures.0, c.of.ensures.1) refl))
