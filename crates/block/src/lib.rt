@@ -80,11 +80,11 @@ pub fn read(file: &[u8]) -> Result<Counts, Refusal>
 }
 
 // Writes the codes of the frame's sets, a byte for each input.
-pub fn frame_codes(file: &[u8], inputs: usize, codes: &mut [u8])
-    requires { (20 * inputs ≤ length file.now) × (inputs ≤ 64) × (length codes.old ≡ 64) }
+pub fn frame_codes(file: &[u8], inputs: usize, codes: &mut [u8; 64])
+    requires { (20 * inputs ≤ length file.now) × (inputs ≤ 64) }
     ensures { Rewritten (allowed file.now) 0 inputs codes.old codes.new }
 {
-    for net in 0..inputs {
-        codes[net] = Record::of(file, Net(net)).allowed() as u8;
+    for (net, code) in codes[..inputs].iter_mut().enumerate() {
+        *code = Record::of(file, Net(net)).allowed() as u8;
     }
 }
