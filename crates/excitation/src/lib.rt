@@ -83,19 +83,17 @@ pub struct Set {
 }
 
 // The set whose one member is an excitation.
+#[tactic(auto, unfolding(crate::specs::UncertaintySet::code))]
 pub fn single(e: Excitation) -> Set
     ensures { result.code ≡ code (single e) }
 {
-    if e.before {
-        if e.after {
-            return Set { code: 2 };
-        }
-        return Set { code: 4 };
-    }
-    if e.after {
-        return Set { code: 8 };
-    }
-    Set { code: 1 }
+    let code = match (e.before, e.after) {
+        (false, false) => 1,
+        (true, true) => 2,
+        (true, false) => 4,
+        (false, true) => 8,
+    };
+    Set { code }
 }
 
 impl Set {
@@ -122,20 +120,17 @@ impl Set {
     }
 
     // Whether an excitation is a member.
+    #[tactic(auto, unfolding(crate::specs::UncertaintySet::decode, crate::specs::UncertaintySet::member))]
     pub fn contains(self, e: Excitation) -> bool
         ensures { result ≡ member e (decode self.code) }
     {
         let n = self.code;
-        if e.before {
-            if e.after {
-                return n / 2 % 2 == 1;
-            }
-            return n / 4 % 2 == 1;
+        match (e.before, e.after) {
+            (false, false) => n % 2 == 1,
+            (true, true) => n / 2 % 2 == 1,
+            (true, false) => n / 4 % 2 == 1,
+            (false, true) => n / 8 % 2 == 1,
         }
-        if e.after {
-            return n / 8 % 2 == 1;
-        }
-        n % 2 == 1
     }
 
     // The members' first levels held.
