@@ -39,14 +39,16 @@ pub const LH: Excitation = Excitation {
 };
 
 // The excitation of a pattern's byte. Bytes above 3 are refused before.
-pub fn excitation_of(byte: u8) -> Excitation
-    ensures { result ≡ excitation_of byte }
-{
-    match byte {
-        1 => H,
-        2 => HL,
-        3 => LH,
-        _ => L,
+impl From<u8> for Excitation {
+    ghost from_gives = { λ byte e. e ≡ excitation_of byte };
+
+    fn from(byte: u8) -> Excitation {
+        match byte {
+            1 => H,
+            2 => HL,
+            3 => LH,
+            _ => L,
+        }
     }
 }
 

@@ -4,7 +4,7 @@ ghost use Rattle.block.specs.Verdict.{verdict};
 ghost use Rattle.operation.specs.Pattern.{byte_allowed, byte_checks};
 
 use block::{Net, Reason, Record, Refusal, check};
-use excitation::Set;
+use excitation::{Excitation, Set};
 
 // Whether a pattern's byte is one that byte 18 of an input allows.
 fn byte_allowed(input: Record, byte: u8) -> bool
@@ -13,7 +13,7 @@ fn byte_allowed(input: Record, byte: u8) -> bool
     let set = Set {
         code: input.allowed() as u8,
     };
-    (byte <= 3) & set.contains(excitation::excitation_of(byte))
+    (byte <= 3) & set.contains(Excitation::from(byte))
 }
 
 // Check 16, on the bytes of the inputs in order.

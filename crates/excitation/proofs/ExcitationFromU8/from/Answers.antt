@@ -1,10 +1,10 @@
--- `excitation::excitation_of` meets its contract.
+-- `excitation::ExcitationFromU8::from` meets its contract.
 -- Assumes nothing.
 use mathlib.Core.Path.{refl, sym}
 use native.Mathlib.Omega.{arith}
 use Rattle.excitation.specs.Excitation.{excitation_of}
 use Rattle.excitation.proofs.Bytes.{byte_other}
-use Rattle.excitation.proofs.excitation_of.Goals as goal
+use Rattle.excitation.proofs.ExcitationFromU8.from.Goals as goal
 
 pub returns-in-1 : goal.returns-in-1
 unfolding excitation_of
