@@ -8,10 +8,11 @@ ghost use Rattle.block.specs.Refusals.{within, zero_bytes, starts_with_input, in
 use super::{Net, Reason, Record, Refusal, check, kind};
 
 // Whether x is low to high.
+#[tactic(auto, unfolding(crate::specs::Refusals::within))]
 pub fn in_range(x: usize, low: usize, high: usize) -> bool
     ensures { result ≡ within low high x }
 {
-    (low <= x) & (x <= high)
+    (low..=high).contains(&x)
 }
 
 // Check 3.
@@ -38,7 +39,7 @@ impl Record<'_> {
         requires { k + n ≤ 20 }
         ensures { result ≡ zero_bytes self.entry.file.now self.entry.net.0 k n }
     {
-        (0..n).all(|i| self.byte(k + i) == 0)
+        (k..k + n).all(|i| self.byte(i) == 0)
     }
 
     // Check 6.
@@ -61,8 +62,7 @@ impl Record<'_> {
         requires { pin_count self.file.now self.net.0 ≤ 4 }
         ensures { result ≡ unused_pins_zero self.entry.file.now self.entry.net.0 }
     {
-        let used = self.pin_count();
-        (0..4 - used).all(|i| self.pin(used + i).0 == 0)
+        (self.pin_count()..4).all(|p| self.pin(p) == Net(0))
     }
 
     // Check 7 of a gate.
@@ -78,7 +78,7 @@ impl Record<'_> {
         requires { pin_count self.file.now self.net.0 ≤ 4 }
         ensures { result ≡ pins_below self.entry.file.now self.entry.net.0 }
     {
-        (0..self.pin_count()).all(|p| self.pin(p).0 < self.net.0)
+        (0..self.pin_count()).all(|p| self.pin(p) < self.net)
     }
 
     // Check 9 on the record of a gate.

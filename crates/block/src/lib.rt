@@ -20,7 +20,7 @@ pub use record::Record;
 pub use verdict::{Reason, Refusal, check};
 
 // A net's number: the position of its record in the file.
-#[derive(Clone, Copy)]
+#[derive(Clone, Copy, PartialEq, Eq, PartialOrd, Ord)]
 pub struct Net(pub usize);
 
 impl Net {
