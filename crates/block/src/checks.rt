@@ -118,7 +118,7 @@ impl Record<'_> {
 
     // Checks 4 to 9, given how many inputs stand below the net.
     #[tactic(auto, using(crate::proofs::Verdicts::judging, crate::proofs::Fields::within_same), unfolding(crate::specs::Refusals::field_checks, crate::specs::Refusals::kind_known))]
-    pub fn check_fields(self, inputs: usize) -> Result<(), Refusal>
+    pub(crate) fn check_fields(self, inputs: usize) -> Result<(), Refusal>
         requires { inputs ≡ inputs_below self.file.now self.net.0 }
         ensures { result ≡ verdict (field_checks self.entry.file.now self.entry.net.0) }
     {

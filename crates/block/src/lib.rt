@@ -34,14 +34,14 @@ impl Net {
 }
 
 // The peaks of a gate's pulses, in microamperes.
-#[derive(Clone, Copy)]
+#[derive(Clone, Copy, PartialEq, Eq)]
 pub struct Peaks {
     pub lh: usize,
     pub hl: usize,
 }
 
 // A gate as its record has it. `used` is its pin count: pins 0 to `used` - 1 are used.
-#[derive(Clone, Copy)]
+#[derive(Clone, Copy, PartialEq, Eq)]
 pub struct Gate {
     pub kind: usize,
     pub contact: usize,

@@ -11,7 +11,7 @@ mod tables;
 use tables::{HELD_AFTER, HELD_BEFORE, JOINS};
 
 // Document 01's excitation: a level before and a level after.
-#[derive(Clone, Copy)]
+#[derive(Clone, Copy, PartialEq, Eq)]
 pub struct Excitation {
     pub before: bool,
     pub after: bool,
@@ -53,7 +53,7 @@ impl From<u8> for Excitation {
 }
 
 // How a multi-pin gate joins its pins.
-#[derive(Clone, Copy)]
+#[derive(Clone, Copy, PartialEq, Eq)]
 pub enum Join {
     And,
     Or,
