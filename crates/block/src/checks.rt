@@ -16,6 +16,7 @@ pub fn in_range(x: usize, low: usize, high: usize) -> bool
 }
 
 // Check 3.
+#[tactic(auto, unfolding(crate::specs::Refusals::starts_with_input, crate::specs::Record::is_input))]
 pub fn starts_with_input(file: &[u8]) -> bool
     ensures { result ≡ starts_with_input file.now }
 {
@@ -26,6 +27,7 @@ pub fn starts_with_input(file: &[u8]) -> bool
 }
 
 // Check 9 of a gate, on its contact, delay, rise and fall.
+#[tactic(auto, unfolding(crate::specs::Refusals::gate_in_range))]
 pub fn gate_in_range(contact: usize, delay: usize, rise: usize, fall: usize) -> bool
     ensures { result ≡ gate_in_range contact delay rise fall }
 {
@@ -43,6 +45,7 @@ impl Record<'_> {
     }
 
     // Check 6.
+    #[tactic(auto, unfolding(crate::specs::Refusals::pin_count_right))]
     fn pin_count_right(self) -> bool
         ensures { result ≡ pin_count_right self.entry.file.now self.entry.net.0 }
     {
@@ -51,6 +54,7 @@ impl Record<'_> {
     }
 
     // Check 7 of an input.
+    #[tactic(auto, unfolding(crate::specs::Refusals::input_spare_zero))]
     fn input_spare_zero(self) -> bool
         ensures { result ≡ input_spare_zero self.entry.file.now self.entry.net.0 }
     {
@@ -66,6 +70,7 @@ impl Record<'_> {
     }
 
     // Check 7 of a gate.
+    #[tactic(auto, unfolding(crate::specs::Refusals::gate_spare_zero))]
     fn gate_spare_zero(self) -> bool
         requires { pin_count self.file.now self.net.0 ≤ 4 }
         ensures { result ≡ gate_spare_zero self.entry.file.now self.entry.net.0 }

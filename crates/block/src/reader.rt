@@ -51,6 +51,7 @@ impl Record<'_> {
     }
 
     // 1 for an input, 0 for a gate.
+    #[tactic(auto, unfolding(crate::specs::Record::is_input))]
     fn input_indicator(self) -> usize
         ensures { (result ≡ indicator (is_input self.entry.file.now self.entry.net.0)) × (result ≤ 1) }
     {

@@ -103,6 +103,7 @@ impl<'a> Record<'a> {
     }
 
     // The tick at which an input switches: every input switches at tick 0.
+    #[tactic(auto, unfolding(crate::specs::Block::switching_tick))]
     pub fn switching_tick(self) -> u8
         ensures { result ≡ switching_tick self.entry.file.now self.entry.net.0 }
     {

@@ -22,9 +22,6 @@ loop-net-init c =
     let e : c.args.nets - 0 ≡ c.args.nets = omega arith in
     (search rules, record { counted = refl; sized = refl; arrived = refl }, rw e refl)
 
-pub check_record-requires : goal.check_record-requires
-check_record-requires c = rw (c.of-record.ensures.0, c.of-record.ensures.1) c.loop-net.invariant.1
-
 pub returns-in_err-check_record : goal.returns-in_err-check_record
 returns-in_err-check_record c =
     let checked = rw (c.of-record.ensures.0, c.of-record.ensures.1) at c.check_record.ensures in

@@ -20,9 +20,6 @@ returns-in_err-check_fields c =
       arrived = λ e. apart _ (sym refused ∙ e);
     }
 
-pub arrival-a-requires : goal.arrival-a-requires
-arrival-a-requires c = sym c.check_fields.ensures ∙ c.in_ok-check_fields.was
-
 pub returns : goal.returns
 returns c =
     let a : c.arrival-a.result ≡ arrival c.args.self.file.now c.args.self.net.0 =
