@@ -128,11 +128,7 @@ impl Record<'_> {
         ensures { result ≡ verdict (field_checks self.entry.file.now self.entry.net.0) }
     {
         let kind = self.kind();
-        check(
-            Reason::UnknownKind,
-            self.net.0 as u64,
-            in_range(kind, 1, 9),
-        )?;
+        check(Reason::UnknownKind, self.net.0 as u64, in_range(kind, 1, 9))?;
         if kind == 1 {
             self.check_input(inputs)
         } else {

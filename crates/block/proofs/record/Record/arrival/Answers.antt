@@ -1,7 +1,6 @@
 -- `block::record::Record::arrival` meets its contract.
 -- Assumes nothing.
 use mathlib.Core.Path.{refl, sym, ◌∙◌}
-use borrow.Author.Rules.{rules}
 use Rattle.block.specs.Block.{arrival_from}
 use Rattle.block.specs.View.{gate_of}
 use Rattle.block.proofs.Fields.{is_input_lem, is_gate_lem, gate_record_lem}

@@ -4,7 +4,6 @@ use Prim.Native.Nat.{◌%◌}
 use mathlib.Core.Path.{◌≡◌, refl, sym, ap, ◌∙◌}
 use native.Mathlib.Omega.{arith}
 use lib.ListN.{length-set}
-use borrow.Author.Rules.{rules}
 use Rattle.block.specs.Block.{arrival_from, arrival}
 use Rattle.block.proofs.Accepted.{arrival_in_time_lem}
 use Rattle.block.proofs.Verdicts.{apart, handed_on}

@@ -1,6 +1,6 @@
 -- `block::record::Record::latest_pin` meets its contract. The loop's invariant: the greatest arrival of the pins passed.
 -- Assumes nothing.
-use Prim.Native.Nat.{◌-◌, ◌≤◌, ◌<◌}
+use Prim.Native.Nat.{◌<◌}
 use mathlib.Core.Path.{◌≡◌}
 use lib.ListN.{get_or, take}
 use Rattle.laws.specs.Below.{max_below}
