@@ -1,10 +1,9 @@
 -- What checks 4 to 9 leave true of a record.
 -- Assumes nothing.
 use Rattle.block.specs.declared.verdict.Reason.TheVariants.{UnknownKind, MisplacedInput, WrongPinCount, StrayByte, PinNotBelow, OutOfRange}
-use Rattle.block.specs.Verdict.{Verdict, Accepted}
+use Rattle.block.specs.Verdict.{Accepted}
 use Prim.Native.Nat.{ℕ, ◌+◌, ◌≤◌}
 use mathlib.Core.Path.{◌≡◌, ap, refl, sym, ◌∙◌}
-use mathlib.Core.List.{[]}
 use mathlib.Core.Bool.{Bool, true, false, ◌&&◌}
 use native.Mathlib.Omega.{arith}
 use lib.Dec.{eqb, leb, ltb}
@@ -20,7 +19,7 @@ use Rattle.block.specs.Verdict.{verdict}
 use Rattle.block.specs.Refusals.{within, kind_known, input_in_place, pin_count_right, zero_bytes, input_spare_zero, pins_below, gate_in_range, input_in_range, input_checks, gate_checks, field_checks}
 use Rattle.block.specs.Accepted.{InputRecord, InRanges, GateRecord}
 use Rattle.block.specs.View.{gate_of}
-use Rattle.block.proofs.Verdicts.{passed, listed, listing}
+use Rattle.block.proofs.Verdicts.{listed, listing}
 use Rattle.block.proofs.Views.{pin_of_lem}
 
 pub within_low : (low high x : ℕ) → within low high x ≡ true → low ≤ x

@@ -1,4 +1,5 @@
 pub mod Verdicts
+pub mod Ranges
 pub mod Fields
 pub mod Gates
 pub mod Records

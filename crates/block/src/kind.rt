@@ -5,7 +5,7 @@ ghost use Rattle.block.specs.Kind.{kind_of, rule_of};
 use excitation::Join;
 
 // The least and the greatest pin count, how the pins are joined, and whether the final result is turned over.
-#[derive(Clone, Copy)]
+#[derive(Clone, Copy, PartialEq, Eq)]
 pub struct Rule {
     pub least: usize,
     pub most: usize,

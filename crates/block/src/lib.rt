@@ -10,16 +10,17 @@ ghost use Rattle.block.specs.Refusals.{file_checks, read_of};
 mod checks;
 mod kind;
 mod reader;
-pub mod record;
+mod record;
 mod verdict;
 pub mod view;
 
 pub use checks::{gate_in_range, in_range};
 pub use kind::{Rule, gate_rule};
+pub use record::Record;
 pub use verdict::{Reason, Refusal, check};
 
 // A net's number: the position of its record in the file.
-#[derive(Clone, Copy)]
+#[derive(Clone, Copy, PartialEq, Eq, PartialOrd, Ord)]
 pub struct Net(pub usize);
 
 impl Net {
@@ -33,14 +34,14 @@ impl Net {
 }
 
 // The peaks of a gate's pulses, in microamperes.
-#[derive(Clone, Copy)]
+#[derive(Clone, Copy, PartialEq, Eq)]
 pub struct Peaks {
     pub lh: usize,
     pub hl: usize,
 }
 
 // A gate as its record has it. `used` is its pin count: pins 0 to `used` - 1 are used.
-#[derive(Clone, Copy)]
+#[derive(Clone, Copy, PartialEq, Eq)]
 pub struct Gate {
     pub kind: usize,
     pub contact: usize,
@@ -79,11 +80,11 @@ pub fn read(file: &[u8]) -> Result<Counts, Refusal>
 }
 
 // Writes the codes of the frame's sets, a byte for each input.
-pub fn frame_codes(file: &[u8], inputs: usize, codes: &mut [u8])
-    requires { (20 * inputs ≤ length file.now) × (inputs ≤ 64) × (length codes.old ≡ 64) }
+pub fn frame_codes(file: &[u8], inputs: usize, codes: &mut [u8; 64])
+    requires { (20 * inputs ≤ length file.now) × (inputs ≤ 64) }
     ensures { Rewritten (allowed file.now) 0 inputs codes.old codes.new }
 {
-    for net in 0..inputs {
-        codes[net] = record::allowed(file, Net(net)) as u8;
+    for (net, code) in codes[..inputs].iter_mut().enumerate() {
+        *code = Record::of(file, Net(net)).allowed() as u8;
     }
 }

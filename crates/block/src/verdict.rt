@@ -63,6 +63,7 @@ pub struct Refusal {
 }
 
 // One check: what does not pass is refused.
+#[tactic(auto, unfolding(crate::specs::Verdict::verdict))]
 pub fn check(reason: Reason, place: u64, passes: bool) -> Result<(), Refusal>
     ensures { result ≡ verdict (check reason place passes ∷ []) }
 {

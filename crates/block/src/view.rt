@@ -3,7 +3,7 @@ ghost use Rattle.std.specs.Prelude.{◌≡◌};
 ghost use Rattle.block.specs.Record.{HasRecord};
 ghost use Rattle.block.specs.View.{GateRead, InView};
 
-use super::{Gate, Net, record};
+use super::{Gate, Net, Record};
 
 // Document 01's block view: the lent record slice and the net count.
 #[derive(Clone, Copy)]
@@ -25,7 +25,7 @@ impl<'a> BlockView<'a> {
         requires { InView self.records.now self.nets net.0 }
         ensures { GateRead self.entry.records.now net.0 result }
     {
-        record::gate(self.records, net)
+        Record::of(self.records, net).gate()
     }
 }
 

@@ -8,7 +8,7 @@ ghost use Rattle.cases.specs.Records.{child_codes};
 ghost use Rattle.cases.specs.Case.{undecided, decided, first_allowed, probe};
 
 use block::Net;
-use excitation::Set;
+use excitation::{Excitation, Set};
 
 // Whether a set has more than one member.
 #[tactic(auto, using(crate::proofs::Codes::undecided_code))]
@@ -51,7 +51,7 @@ pub fn write_probe_codes(codes: &[u8], inputs: usize, singles: &mut [u8])
     ensures { Rewritten (λ net. code (single (first_allowed (decode (get_or codes.now net 0))))) 0 inputs singles.old singles.new }
 {
     for net in 0..inputs {
-        let first = excitation::excitation_of(first_allowed(codes[net]));
+        let first = Excitation::from(first_allowed(codes[net]));
         singles[net] = excitation::single(first).code;
     }
 }
@@ -75,6 +75,6 @@ pub fn child_codes(parent: &[u8], input: Net, e: u8) -> [u8; 64]
     let net = input.0;
     let mut codes = [0u8; 64];
     codes.copy_from_slice(parent);
-    codes[net] = excitation::single(excitation::excitation_of(e)).code;
+    codes[net] = excitation::single(Excitation::from(e)).code;
     codes
 }

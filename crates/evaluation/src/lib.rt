@@ -5,7 +5,7 @@ ghost use Rattle.std.specs.Prelude.{◌≡◌, ◌*◌, ◌≤◌, ◌<◌, leng
 ghost use Rattle.block.specs.Block.{last_pulse_end};
 ghost use Rattle.evaluation.specs.Evaluation.{HasRows, InputCodes, InputsMade, Evaluable, sheet_for, BlockDrawn, Evaluated};
 
-use block::{Gate, Net, record, view};
+use block::{Gate, Net, Record, view};
 use operation::Currents;
 use sheet::Word;
 
@@ -23,7 +23,7 @@ fn make_inputs(file: &[u8], codes: &[u8], inputs: usize, work: &mut [u8])
     ensures { InputsMade file.now inputs codes.now work.old work.new }
 {
     for net in 0..inputs {
-        let switching = record::switching_tick(file, Net(net));
+        let switching = Record::of(file, Net(net)).switching_tick();
         waveform::input_waveform(work, Net(net), codes[net], switching);
     }
 }

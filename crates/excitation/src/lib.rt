@@ -11,7 +11,7 @@ mod tables;
 use tables::{HELD_AFTER, HELD_BEFORE, JOINS};
 
 // Document 01's excitation: a level before and a level after.
-#[derive(Clone, Copy)]
+#[derive(Clone, Copy, PartialEq, Eq)]
 pub struct Excitation {
     pub before: bool,
     pub after: bool,
@@ -39,19 +39,21 @@ pub const LH: Excitation = Excitation {
 };
 
 // The excitation of a pattern's byte. Bytes above 3 are refused before.
-pub fn excitation_of(byte: u8) -> Excitation
-    ensures { result ≡ excitation_of byte }
-{
-    match byte {
-        1 => H,
-        2 => HL,
-        3 => LH,
-        _ => L,
+impl From<u8> for Excitation {
+    ghost from_gives = { λ byte e. e ≡ excitation_of byte };
+
+    fn from(byte: u8) -> Excitation {
+        match byte {
+            1 => H,
+            2 => HL,
+            3 => LH,
+            _ => L,
+        }
     }
 }
 
 // How a multi-pin gate joins its pins.
-#[derive(Clone, Copy)]
+#[derive(Clone, Copy, PartialEq, Eq)]
 pub enum Join {
     And,
     Or,
@@ -83,19 +85,17 @@ pub struct Set {
 }
 
 // The set whose one member is an excitation.
+#[tactic(auto, unfolding(crate::specs::UncertaintySet::code))]
 pub fn single(e: Excitation) -> Set
     ensures { result.code ≡ code (single e) }
 {
-    if e.before {
-        if e.after {
-            return Set { code: 2 };
-        }
-        return Set { code: 4 };
-    }
-    if e.after {
-        return Set { code: 8 };
-    }
-    Set { code: 1 }
+    let code = match (e.before, e.after) {
+        (false, false) => 1,
+        (true, true) => 2,
+        (true, false) => 4,
+        (false, true) => 8,
+    };
+    Set { code }
 }
 
 impl Set {
@@ -122,20 +122,17 @@ impl Set {
     }
 
     // Whether an excitation is a member.
+    #[tactic(auto, unfolding(crate::specs::UncertaintySet::decode, crate::specs::UncertaintySet::member))]
     pub fn contains(self, e: Excitation) -> bool
         ensures { result ≡ member e (decode self.code) }
     {
         let n = self.code;
-        if e.before {
-            if e.after {
-                return n / 2 % 2 == 1;
-            }
-            return n / 4 % 2 == 1;
+        match (e.before, e.after) {
+            (false, false) => n % 2 == 1,
+            (true, true) => n / 2 % 2 == 1,
+            (true, false) => n / 4 % 2 == 1,
+            (false, true) => n / 8 % 2 == 1,
         }
-        if e.after {
-            return n / 8 % 2 == 1;
-        }
-        n % 2 == 1
     }
 
     // The members' first levels held.

@@ -9,7 +9,7 @@ ghost use Rattle.program.specs.Program.{outcome_word, excitation_word, refusal_t
 
 use arrayvec::ArrayString;
 use block::{Reason, Refusal};
-use excitation::excitation_of;
+use excitation::Excitation;
 use lines::{push_number, push_word, separator};
 use operation::{Found, Outcome};
 use sheet::Word;
@@ -65,7 +65,7 @@ fn outcome_word(outcome: Outcome) -> &'static str
 fn excitation_word(byte: u8) -> &'static str
     ensures { (result.now ≡ excitation_word (excitation_of byte)) × (length result.now ≤ 2) }
 {
-    let excitation = excitation_of(byte);
+    let excitation = Excitation::from(byte);
     match (excitation.before, excitation.after) {
         (true, true) => "h",
         (true, false) => "hl",

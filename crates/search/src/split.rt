@@ -12,7 +12,7 @@ use block::Net;
 use bounds::make;
 use cases::{CaseNumber, choice, sets, store};
 use evaluation::Setting;
-use excitation::Set;
+use excitation::{Excitation, Set};
 use sheet::Word;
 
 // Where a split stands: how many cases there are, the place of the next child, and the drop that makes a probe the best.
@@ -60,7 +60,7 @@ fn make_child(
     let net = input.0;
     let code = parent[net];
     let set = Set { code };
-    if !set.contains(excitation::excitation_of(e)) {
+    if !set.contains(Excitation::from(e)) {
         return step;
     }
     let codes = sets::child_codes(parent, input, e);

@@ -8,6 +8,7 @@ ghost use Rattle.simulator.specs.Simulate.{size_checks, pattern_sheet, PatternCo
 
 use block::{Counts, Refusal};
 use evaluation::Setting;
+use excitation::Excitation;
 use operation::{Currents, arguments, pattern};
 use sheet::Word;
 
@@ -37,7 +38,7 @@ fn pattern_codes(pattern: &[u8], inputs: usize, codes: &mut [u8])
     ensures { PatternCodes inputs pattern.now codes.new }
 {
     for net in 0..inputs {
-        codes[net] = excitation::single(excitation::excitation_of(pattern[net])).code;
+        codes[net] = excitation::single(Excitation::from(pattern[net])).code;
     }
 }
 

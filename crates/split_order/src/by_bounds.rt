@@ -17,7 +17,7 @@ use block::{Counts, Net, Refusal};
 use bounds::evaluate;
 use cases::sets;
 use evaluation::Setting;
-use excitation::Set;
+use excitation::{Excitation, Set};
 use operation::{SplitOrder, arguments};
 use sheet::Word;
 
@@ -77,7 +77,7 @@ fn try_child(
 {
     let net = input.0;
     let set = Set { code: frame[net] };
-    if !set.contains(excitation::excitation_of(e)) {
+    if !set.contains(Excitation::from(e)) {
         return tried;
     }
     let codes = sets::child_codes(frame, input, e);

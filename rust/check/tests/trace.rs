@@ -95,12 +95,12 @@ fn all_public_code_has_its_row() {
 fn a_name_that_is_nowhere_is_seen() {
     let row = sentence(
         "def `block` `Record` `net_count`, `byte_at`, `Kind` `rule_of` (how); law `block` `Record` `net_count`; \
-         promise `block::record::word`, `wordy`; code `block::Net::start`, `stop`; the view: `block::View`; \
+         promise `block::record::Record::word`, `wordy`; code `block::Net::start`, `stop`; the view: `block::View`; \
          edit `block` `kind_10_known`, `kind_11_known`; test `read.rs` `order::*`, `ranges::delay`, `order`",
     );
     let expected = [
         "law block Record net_count",
-        "promise block::record::wordy",
+        "promise block::record::Record::wordy",
         "code block::Net::stop",
         "edit block kind_11_known",
         "test read.rs ranges::order",

@@ -1,9 +1,8 @@
--- `block::frame_codes` meets its contract.
+-- `block::frame_codes` meets its contract. The loop's invariant: the codes before the next input's are written.
 -- Assumes nothing.
-use Prim.Native.Nat.{◌-◌, ◌≤◌}
-use Rattle.laws.specs.Rewritten.{Rewritten}
+use Rattle.std.proofs.Common.{ℕ, ◌<◌, ◌≡◌, get_or}
 use Rattle.block.specs.Record.{allowed}
 use Rattle.block.proofs.frame_codes.Given as goal
 
 abbrev pub invariant-loop-net : goal.invariant-loop-net
-invariant-loop-net l = (l.net ≤ l.inputs) × Rewritten (allowed l.file) 0 l.net l.initial.codes l.codes
+invariant-loop-net l = (j : ℕ) → j < l.net → get_or l.code-items j 0 ≡ allowed l.file j

@@ -7,8 +7,8 @@ use Rattle.evaluation.proofs.make_inputs.Goals as goal
 pub loop-net-init : goal.loop-net-init
 loop-net-init c = inputs_none _ _ _
 
-pub switching_tick-switching-requires : goal.switching_tick-switching-requires
-switching_tick-switching-requires c = record { whole = omega (arith, c.requires.0); numbered = omega (arith, c.requires.2.numbered) }
+pub of-requires : goal.of-requires
+of-requires c = record { whole = omega (arith, c.requires.0); numbered = omega (arith, c.requires.2.numbered) }
 
 pub bounds-codes-net : goal.bounds-codes-net
 bounds-codes-net c = omega (arith, c.requires.1.enough)
@@ -17,7 +17,10 @@ pub input_waveform-requires : goal.input_waveform-requires
 input_waveform-requires c = let l = c.loop-net in (has_row l.net (record { whole = omega (arith, c.requires.2.whole, l.invariant.long); numbered = c.requires.2.numbered }) (omega arith), c.requires.1.low l.net (omega arith))
 
 pub loop-net-preserved : goal.loop-net-preserved
-loop-net-preserved c = let l = c.loop-net in inputs_next _ l.net _ _ l.work _ l.invariant (rw c.switching_tick-switching.ensures at c.input_waveform.ensures)
+loop-net-preserved c =
+    let l = c.loop-net in
+    inputs_next _ l.net _ _ l.work _ l.invariant
+    (rw (c.switching_tick-switching.ensures, c.of.ensures.0, c.of.ensures.1) at c.input_waveform.ensures)
 
 pub shape_of-work : goal.shape_of-work
 shape_of-work c = c.loop-net.invariant.long

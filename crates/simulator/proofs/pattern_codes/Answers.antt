@@ -19,7 +19,7 @@ pub loop-net-preserved : goal.loop-net-preserved
 loop-net-preserved c =
     let l = c.loop-net in
     rewritten_next _ _ l.net _ _ _ _ (omega arith) (omega (arith, c.requires))
-    (c.single.ensures ∙ ap (λ e. code (single e)) c.excitation_of.ensures) l.invariant
+    (c.single.ensures ∙ ap (λ e. code (single e)) c.from.ensures) l.invariant
 
 pub returns : goal.returns
 returns c =

@@ -20,30 +20,28 @@ pub loop-net-init : goal.loop-net-init
 unfolding inputs_below count_below arrivals in_turn
 loop-net-init c =
     let e : c.args.nets - 0 ≡ c.args.nets = omega arith in
-    (search rules, search rules, record { counted = refl; sized = refl; arrived = refl }, rw e refl)
-
-pub check_record-requires : goal.check_record-requires
-check_record-requires c = (omega arith, c.loop-net.invariant.2)
+    (search rules, record { counted = refl; sized = refl; arrived = refl }, rw e refl)
 
 pub returns-in_err-check_record : goal.returns-in_err-check_record
 returns-in_err-check_record c =
-    let l = c.loop-net in
-    let refusal = sym c.check_record.ensures.judged ∙ c.in_err-check_record.was in
-    handed_on c.from_residual.ensures.1 (ap (answer_to c.args.file.now) (sym (records_refused _ _ _ c.loop-net-test.true _ refusal) ∙ l.invariant.3))
+    let checked = rw (c.of-record.ensures.0, c.of-record.ensures.1) at c.check_record.ensures in
+    let refusal = sym checked.judged ∙ c.in_err-check_record.was in
+    handed_on c.from_residual.ensures.1
+    (ap (answer_to c.args.file.now) (sym (records_refused _ _ _ c.loop-net-test.true _ refusal) ∙ c.loop-net.invariant.2))
 
 pub loop-net-preserved : goal.loop-net-preserved
 loop-net-preserved c =
     let l = c.loop-net in
-    let checked = c.check_record.ensures in
+    let checked = rw (c.of-record.ensures.0, c.of-record.ensures.1) at c.check_record.ensures in
+    let one = rw (c.of-record.ensures.0, c.of-record.ensures.1) at c.input_indicator-inputs.ensures.0 in
     let told = c.in_ok-check_record.was in
-    let counted = ap (λ n. l.inputs + n) c.input_indicator-inputs.ensures.0 ∙ counted_next _ _ _ l.invariant.2.counted in
-    let within = c.loop-net-test.true in
-    let rest = records_next _ _ _ within (sym checked.judged ∙ told) ∙ l.invariant.3 in
-    (omega arith, omega arith, record { counted = counted; sized = checked.sized; arrived = checked.arrived told }, rest)
+    let counted = ap (λ n. l.inputs + n) one ∙ counted_next _ _ _ l.invariant.1.counted in
+    let rest = records_next _ _ _ c.loop-net-test.true (sym checked.judged ∙ told) ∙ l.invariant.2 in
+    (omega arith, record { counted = counted; sized = checked.sized; arrived = checked.arrived told }, rest)
 
 pub returns : goal.returns
 returns c =
     let l = c.loop-net in
     let n : l.net ≡ net_count c.args.file.now = omega arith in
-    ap₂ (λ m i. Ok (counts m i)) c.requires.0 (l.invariant.2.counted ∙ ap (inputs_below c.args.file.now) n)
-    ∙ ap (answer_to _) (sym (records_end _ _ _ c.loop-net-test.false) ∙ l.invariant.3)
+    ap₂ (λ m i. Ok (counts m i)) c.requires.0 (l.invariant.1.counted ∙ ap (inputs_below c.args.file.now) n)
+    ∙ ap (answer_to _) (sym (records_end _ _ _ c.loop-net-test.false) ∙ l.invariant.2)

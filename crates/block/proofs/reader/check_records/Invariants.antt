@@ -10,4 +10,4 @@ use Rattle.block.proofs.reader.check_records.Given as goal
 
 abbrev pub invariant-loop-net : goal.invariant-loop-net
 invariant-loop-net l =
-    (l.net ≤ l.nets) × (l.inputs ≤ l.net) × Known l.file l.net l.inputs l.arrivals × (verdict (records_from l.file l.net (l.nets - l.net)) ≡ verdict (records_from l.file 0 l.nets))
+    (l.inputs ≤ l.net) × Known l.file l.net l.inputs l.arrivals × (verdict (records_from l.file l.net (l.nets - l.net)) ≡ verdict (records_from l.file 0 l.nets))

@@ -11,5 +11,5 @@ use Rattle.cases.proofs.sets.write_probe_codes.Goals as goal
 pub loop-net-preserved : goal.loop-net-preserved
 loop-net-preserved c =
     let loop = c.loop-net in
-    let first = c.excitation_of-first.ensures ∙ ap excitation_of c.first_allowed.ensures ∙ byte_back _ in
+    let first = c.from-first.ensures ∙ ap excitation_of c.first_allowed.ensures ∙ byte_back _ in
     rewritten_next _ _ loop.net _ _ _ _ (omega arith) (omega arith) (c.single.ensures ∙ ap (λ e. code (single e)) first) loop.invariant

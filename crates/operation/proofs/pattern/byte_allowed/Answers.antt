@@ -6,4 +6,4 @@ use Rattle.operation.proofs.pattern.byte_allowed.Goals as goal
 
 pub returns : goal.returns
 unfolding byte_allowed
-returns c = rw (c.contains.ensures, c.excitation_of.ensures, c.allowed.ensures.0) refl
+returns c = rw (c.contains.ensures, c.from.ensures, c.allowed.ensures.0) refl

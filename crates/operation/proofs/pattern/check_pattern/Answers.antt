@@ -11,11 +11,14 @@ loop-net-init c = bytes_none _ _
 
 pub returns-in_err-check : goal.returns-in_err-check
 returns-in_err-check c =
+    let allowed = rw (c.of.ensures.0, c.of.ensures.1) at c.byte_allowed-allowed.ensures in
     handed_on c.from_residual.ensures.1
-    (bytes_refused _ _ _ c.loop-net.invariant c.check.ensures c.byte_allowed-allowed.ensures _ _ c.loop-net-test.true c.in_err-check.was)
+    (bytes_refused _ _ _ c.loop-net.invariant c.check.ensures allowed _ _ c.loop-net-test.true c.in_err-check.was)
 
 pub loop-net-preserved : goal.loop-net-preserved
-loop-net-preserved c = bytes_next _ _ _ c.loop-net.invariant c.check.ensures c.byte_allowed-allowed.ensures c.in_ok-check.was
+loop-net-preserved c =
+    let allowed = rw (c.of.ensures.0, c.of.ensures.1) at c.byte_allowed-allowed.ensures in
+    bytes_next _ _ _ c.loop-net.invariant c.check.ensures allowed c.in_ok-check.was
 
 pub returns : goal.returns
 returns c =

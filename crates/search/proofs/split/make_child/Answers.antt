@@ -25,7 +25,7 @@ pub returns-then-known : goal.returns-then-known
 returns-then-known c =
     let below = child_below c.args.file.now c.args.setting c.args.table.now c.args.parent.now c.args.input.0 c.args.e c.requires.0.accepted.few_inputs c.requires.1
     c.requires.3 c.child_codes-codes.ensures c.first_allowed.ensures c.requires.8 (eq-eqb _ _ c.if-known.true) in
-    child_made c.excitation_of.ensures c.contains.ensures (ap not c.if-not-contains.false) c.child_codes-codes.ensures
+    child_made c.from.ensures c.contains.ensures (ap not c.if-not-contains.false) c.child_codes-codes.ensures
     (bounded_made c.bound_case.ensures below (omega (arith, c.requires.7))) c.child_made.ensures
 
 pub make_case-threshold-requires : goal.make_case-threshold-requires

@@ -10,7 +10,7 @@ use Rattle.split_order.proofs.by_bounds.try_child.Goals as goal
 
 pub returns-then-not-contains : goal.returns-then-not-contains
 returns-then-not-contains c =
-    tried_skipped _ c.args.setting _ _ c.args.input.0 c.requires.2 c.args.e c.excitation_of.ensures c.contains.ensures c.requires.5 (ap not c.if-not-contains.true)
+    tried_skipped _ c.args.setting _ _ c.args.input.0 c.requires.2 c.args.e c.from.ensures c.contains.ensures c.requires.5 (ap not c.if-not-contains.true)
 
 pub evaluate_case-own-requires : goal.evaluate_case-own-requires
 evaluate_case-own-requires c =
@@ -23,6 +23,6 @@ evaluate_case-own-requires c =
 
 pub returns : goal.returns
 returns c =
-    tried_more _ c.args.setting _ _ c.args.input.0 c.requires.2 c.args.e c.excitation_of.ensures c.contains.ensures
+    tried_more _ c.args.setting _ _ c.args.input.0 c.requires.2 c.args.e c.from.ensures c.contains.ensures
     c.requires.5 c.requires.0.accepted.few_inputs c.told-frame c.requires.3 (ap not c.if-not-contains.false) c.child_codes-codes.ensures c.requires.4
     c.evaluate_case-own.ensures c.min.ensures c.put.ensures

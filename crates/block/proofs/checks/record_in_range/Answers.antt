@@ -1,7 +1,0 @@
--- `block::checks::record_in_range` meets its contract.
--- Assumes nothing.
-use mathlib.Core.Path.{refl, ◌∙◌}
-use Rattle.block.proofs.checks.record_in_range.Goals as goal
-
-pub returns : goal.returns
-returns c = c.gate_in_range.ensures ∙ rw (c.contact.ensures.0, c.delay.ensures.0, c.rise.ensures.0, c.fall.ensures.0) refl
