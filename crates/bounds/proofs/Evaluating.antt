@@ -17,9 +17,15 @@ use Rattle.cases.proofs.Cases.{evaluation_decided, evaluation_undecided}
 use Rattle.cases.proofs.Singles.{decided_sets}
 use Rattle.bounds.specs.Bounds.{simulated_drop, envelope_drop, own_upper, CaseEvaluated}
 
-module _ (file : File) (setting : Setting) {table codes : List ℕ} {r : Bool} (test : r ≡ decided (sets_in setting.inputs codes)) where
+module _ (setting : Setting) {codes : List ℕ} {r : Bool} (test : r ≡ decided (sets_in setting.inputs codes)) where
+  abbrev file : File
+  file = setting.file.now
+
+  abbrev table : List ℕ
+  table = setting.table.now
+
   pub case_simulated : {sheet : List ℕ} {currents : Currents} → r ≡ true → SetCodes setting.inputs codes
-      → SinglesEvaluated file setting codes table currents sheet → CaseEvaluated file setting table codes currents.drop sheet
+      → SinglesEvaluated setting codes currents sheet → CaseEvaluated setting codes currents.drop sheet
   unfolding own_upper
   case_simulated t coded e =
       let d = sym test ∙ t in
@@ -31,8 +37,8 @@ module _ (file : File) (setting : Setting) {table codes : List ℕ} {r : Bool} (
         written = told.written ∙ ap sheet_words (sym (evaluation_decided (simulated_sheet file) (envelope_sheet setting.hops file) case d));
       }
 
-  pub case_enveloped : {sheet : List ℕ} {currents : Currents} → r ≡ false → Evaluated table (sheet_for file setting codes) currents sheet
-      → CaseEvaluated file setting table codes currents.drop sheet
+  pub case_enveloped : {sheet : List ℕ} {currents : Currents} → r ≡ false → Evaluated table (sheet_for setting codes) currents sheet
+      → CaseEvaluated setting codes currents.drop sheet
   unfolding own_upper
   case_enveloped t e =
       let d = sym test ∙ t in

@@ -30,25 +30,31 @@ probe_codes {inputs} codes {given} {singles} room written = record {
   low = λ net h. subst (λ x. x < 16) (sym (rewritten_first _ inputs given singles written net h)) (code_below _);
 }
 
-pub probe_simulated : (file : File) {table given singles words : List ℕ} {answer : Currents} (setting : Setting) (codes : List ℕ)
+pub probe_simulated : {given singles words : List ℕ} {answer : Currents} (setting : Setting) (codes : List ℕ)
     → Rewritten (λ net. code (single (first_allowed (decode (get_or codes net 0))))) 0 setting.inputs given singles
-    → SinglesEvaluated file setting singles table answer words
-    → (answer.drop ≡ probe_drop file setting table codes) × (answer.drop < drop_limit)
-probe_simulated file setting codes written e =
+    → SinglesEvaluated setting singles answer words
+    → (answer.drop ≡ probe_drop setting codes) × (answer.drop < drop_limit)
+probe_simulated setting codes written e =
     let is = e _ (probe_sets setting.inputs codes written) in
     (ap (λ (c : Currents). c.drop) is.answered, is.low)
 
 -- The upper number of a case before the cap, by the test whether every input is decided.
 
-module _ (file : File) (setting : Setting) (table codes : List ℕ) {r : Bool} (test : r ≡ decided (sets_in setting.inputs codes)) where
-  pub upper_simulated : {drop : ℕ} → r ≡ true → drop ≡ probe_drop file setting table codes → drop < drop_limit
-      → (drop ≡ upper_of file setting table codes) × (drop < drop_limit)
+module _ (setting : Setting) (codes : List ℕ) {r : Bool} (test : r ≡ decided (sets_in setting.inputs codes)) where
+  abbrev file : File
+  file = setting.file.now
+
+  abbrev table : List ℕ
+  table = setting.table.now
+
+  pub upper_simulated : {drop : ℕ} → r ≡ true → drop ≡ probe_drop setting codes → drop < drop_limit
+      → (drop ≡ upper_of setting codes) × (drop < drop_limit)
   unfolding own_upper
   upper_simulated t e low =
       (e ∙ sym (evaluation_decided (simulated_drop file table) (envelope_drop file setting.hops table) (sets_in setting.inputs codes) (sym test ∙ t)), low)
 
-  pub upper_enveloped : {sheet : List ℕ} {currents : Currents} → r ≡ false → Evaluated table (sheet_for file setting codes) currents sheet
-      → (currents.drop ≡ upper_of file setting table codes) × (currents.drop < drop_limit)
+  pub upper_enveloped : {sheet : List ℕ} {currents : Currents} → r ≡ false → Evaluated table (sheet_for setting codes) currents sheet
+      → (currents.drop ≡ upper_of setting codes) × (currents.drop < drop_limit)
   unfolding own_upper
   upper_enveloped t e = (
     ap (λ (c : Currents). c.drop) e.answered

@@ -24,39 +24,35 @@ fn raise(sheet: &mut [Word], other: &[Word])
 
 // Draws the sheet of case k: its simulation where it is decided, else its envelope.
 fn draw_case(
-    file: &[u8],
-    setting: Setting,
-    table: &[u16],
+    setting: Setting<'_>,
     store: &[u8],
     k: CaseNumber,
     sheet: &mut [Word],
     work: &mut [u8],
 )
-    requires { Evaluable file.now setting sheet.old work.old × HasCase store.now k.0 × SetCodes setting.inputs (drop (72 * k.0) store.now) }
-    ensures { sheet.new ≡ sheet_words (evaluation_of (simulated_sheet file.now) (envelope_sheet setting.hops file.now) (case_in setting.inputs store.now k.0).sets) }
+    requires { Evaluable setting sheet.old work.old × HasCase store.now k.0 × SetCodes setting.inputs (drop (72 * k.0) store.now) }
+    ensures { sheet.new ≡ sheet_words (evaluation_of (simulated_sheet setting.entry.file.now) (envelope_sheet setting.entry.hops setting.entry.file.now) (case_in setting.entry.inputs store.now k.0).sets) }
 {
     let mut codes = [0u8; 64];
     store::read_sets(store, k, &mut codes);
-    evaluate::evaluate_case(file, setting, table, &codes, sheet, work);
+    evaluate::evaluate_case(setting, &codes, sheet, work);
 }
 
 // Draws the sheet over the first n cases.
 pub fn draw_cases(
-    file: &[u8],
-    setting: Setting,
-    table: &[u16],
+    setting: Setting<'_>,
     store: &[u8],
     n: usize,
     sheet: &mut [Word],
     work: &mut [u8],
 )
-    requires { Evaluable file.now setting sheet.old work.old × HasCases setting.inputs store.now n }
-    ensures { sheet.new ≡ sheet_words (sheet_over file.now setting.hops (cases_in setting.inputs store.now n)) }
+    requires { Evaluable setting sheet.old work.old × HasCases setting.inputs store.now n }
+    ensures { sheet.new ≡ sheet_words (sheet_over setting.entry.file.now setting.entry.hops (cases_in setting.entry.inputs store.now n)) }
 {
     let mut one: [Word; 8192] = [0; 8192];
     sheet::clear(sheet);
     for k in 0..n {
-        draw_case(file, setting, table, store, CaseNumber(k), &mut one, work);
+        draw_case(setting, store, CaseNumber(k), &mut one, work);
         raise(sheet, &one);
     }
 }

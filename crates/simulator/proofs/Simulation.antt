@@ -39,11 +39,12 @@ sheet_single hops file pattern enough =
     ∙ transitions_single hops (waveforms simulation file pattern (net_count file)))
 
 -- An evaluation of single sets, with nothing filled.
-pub singles_evaluated : (file : File) {table words : List ℕ} {answer : Currents} (setting : Setting) (codes : List ℕ) (hops : ℕ) → 128 ≤ hops
-    → Evaluated table (envelope_sheet hops file (sets_in setting.inputs codes)) answer words
-    → SinglesEvaluated file setting codes table answer words
-singles_evaluated file {table} {words} {answer} setting codes hops enough e pattern are =
-    subst (λ sheet. Evaluated table sheet answer words) (ap (envelope_sheet hops file) are ∙ sheet_single hops file pattern enough) e
+pub singles_evaluated : {words : List ℕ} {answer : Currents} (setting : Setting) (codes : List ℕ) (hops : ℕ) → 128 ≤ hops
+    → Evaluated setting.table.now (envelope_sheet hops setting.file.now (sets_in setting.inputs codes)) answer words
+    → SinglesEvaluated setting codes answer words
+singles_evaluated {words} {answer} setting codes hops enough e pattern are =
+    let file = setting.file.now in
+    subst (λ sheet. Evaluated setting.table.now sheet answer words) (ap (envelope_sheet hops file) are ∙ sheet_single hops file pattern enough) e
 
 -- The codes of a pattern: their sets have its excitations as their one members.
 module _ {inputs : ℕ} {pattern codes : List ℕ} (coded : PatternCodes inputs pattern codes) where
@@ -61,9 +62,9 @@ module _ {inputs : ℕ} {pattern codes : List ℕ} (coded : PatternCodes inputs 
       ∙ sym (list_map single inputs (λ net. excitation_of (get_or pattern net 0)))
 
 -- A pattern is simulated by its codes.
-pub pattern_evaluated : {file : File} {table words : List ℕ} {answer : Currents} (setting : Setting) {pattern codes : List ℕ}
-    → AcceptedFile file setting.nets setting.inputs → PatternCodes setting.inputs pattern codes
-    → SinglesEvaluated file setting codes table answer words → Evaluated table (pattern_sheet file pattern) answer words
-pattern_evaluated {file} {table} {words} {answer} setting {pattern} accepted coded e =
-    subst (λ n. Evaluated table (simulated_sheet file (pattern_of n pattern)) answer words) (sym accepted.input_count_lem)
-    (e _ (pattern_sets coded))
+pub pattern_evaluated : {words : List ℕ} {answer : Currents} (setting : Setting) {pattern codes : List ℕ}
+    → PatternCodes setting.inputs pattern codes → SinglesEvaluated setting codes answer words
+    → Evaluated setting.table.now (pattern_sheet setting.file.now pattern) answer words
+pattern_evaluated {words} {answer} setting {pattern} coded e =
+    subst (λ n. Evaluated setting.table.now (simulated_sheet setting.file.now (pattern_of n pattern)) answer words)
+    (sym setting.accepted.input_count_lem) (e _ (pattern_sets coded))

@@ -5,5 +5,5 @@ use Rattle.bounds.proofs.draw.draw_case.Goals as goal
 
 pub returns : goal.returns
 returns c =
-    case_drawn c.args.file.now c.args.setting c.requires.0.accepted.few_inputs c.args.store.now c.args.k.0
+    case_drawn c.args.setting c.args.store.now c.args.k.0
     c.read_sets.ensures c.evaluate_case.ensures
