@@ -15,15 +15,9 @@ use Rattle.cases.specs.Case.{decided}
 use Rattle.cases.specs.Records.{SetCodes}
 use Rattle.cases.proofs.Cases.{evaluation_decided, evaluation_undecided}
 use Rattle.cases.proofs.Singles.{decided_sets}
-use Rattle.bounds.specs.Bounds.{simulated_drop, envelope_drop, own_upper, CaseEvaluated}
+use Rattle.bounds.specs.Bounds.{pattern_drop, case_drop, own_upper, CaseEvaluated}
 
 module _ (setting : Setting) {codes : List ℕ} {r : Bool} (test : r ≡ decided (sets_in setting.inputs codes)) where
-  abbrev file : File
-  file = setting.file.now
-
-  abbrev table : List ℕ
-  table = setting.table.now
-
   pub case_simulated : {sheet : List ℕ} {currents : Currents} → r ≡ true → SetCodes setting.inputs codes
       → SinglesEvaluated setting codes currents sheet → CaseEvaluated setting codes currents.drop sheet
   unfolding own_upper
@@ -32,19 +26,19 @@ module _ (setting : Setting) {codes : List ℕ} {r : Bool} (test : r ≡ decided
       let case = sets_in setting.inputs codes in
       let told = e _ (decided_sets setting.inputs codes coded d) in
       record {
-        is = ap (λ (c : Currents). c.drop) told.answered ∙ sym (evaluation_decided (simulated_drop file table) (envelope_drop file setting.hops table) case d);
+        is = ap (λ (c : Currents). c.drop) told.answered ∙ sym (evaluation_decided (pattern_drop setting) (case_drop setting) case d);
         low = told.low;
-        written = told.written ∙ ap sheet_words (sym (evaluation_decided (simulated_sheet file) (envelope_sheet setting.hops file) case d));
+        written = told.written ∙ ap sheet_words (sym (evaluation_decided (simulated_sheet setting.file.now) (envelope_sheet setting.hops setting.file.now) case d));
       }
 
-  pub case_enveloped : {sheet : List ℕ} {currents : Currents} → r ≡ false → Evaluated table (sheet_for setting codes) currents sheet
+  pub case_enveloped : {sheet : List ℕ} {currents : Currents} → r ≡ false → Evaluated setting.table.now (sheet_for setting codes) currents sheet
       → CaseEvaluated setting codes currents.drop sheet
   unfolding own_upper
   case_enveloped t e =
       let d = sym test ∙ t in
       let case = sets_in setting.inputs codes in
       record {
-        is = ap (λ (c : Currents). c.drop) e.answered ∙ sym (evaluation_undecided (simulated_drop file table) (envelope_drop file setting.hops table) case d);
+        is = ap (λ (c : Currents). c.drop) e.answered ∙ sym (evaluation_undecided (pattern_drop setting) (case_drop setting) case d);
         low = e.low;
-        written = e.written ∙ ap sheet_words (sym (evaluation_undecided (simulated_sheet file) (envelope_sheet setting.hops file) case d));
+        written = e.written ∙ ap sheet_words (sym (evaluation_undecided (simulated_sheet setting.file.now) (envelope_sheet setting.hops setting.file.now) case d));
       }

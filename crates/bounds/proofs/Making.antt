@@ -19,7 +19,7 @@ use Rattle.simulator.specs.Simulate.{SinglesEvaluated}
 use Rattle.cases.specs.Case.{decided, first_allowed}
 use Rattle.cases.proofs.Cases.{evaluation_decided, evaluation_undecided}
 use Rattle.cases.proofs.Singles.{probe_sets}
-use Rattle.bounds.specs.Bounds.{simulated_drop, envelope_drop, own_upper, probe_drop, upper_of}
+use Rattle.bounds.specs.Bounds.{pattern_drop, case_drop, own_upper, probe_drop, upper_of}
 
 -- The drop of a probe, simulated by the codes of its single sets.
 
@@ -41,23 +41,17 @@ probe_simulated setting codes written e =
 -- The upper number of a case before the cap, by the test whether every input is decided.
 
 module _ (setting : Setting) (codes : List ℕ) {r : Bool} (test : r ≡ decided (sets_in setting.inputs codes)) where
-  abbrev file : File
-  file = setting.file.now
-
-  abbrev table : List ℕ
-  table = setting.table.now
-
   pub upper_simulated : {drop : ℕ} → r ≡ true → drop ≡ probe_drop setting codes → drop < drop_limit
       → (drop ≡ upper_of setting codes) × (drop < drop_limit)
   unfolding own_upper
   upper_simulated t e low =
-      (e ∙ sym (evaluation_decided (simulated_drop file table) (envelope_drop file setting.hops table) (sets_in setting.inputs codes) (sym test ∙ t)), low)
+      (e ∙ sym (evaluation_decided (pattern_drop setting) (case_drop setting) (sets_in setting.inputs codes) (sym test ∙ t)), low)
 
-  pub upper_enveloped : {sheet : List ℕ} {currents : Currents} → r ≡ false → Evaluated table (sheet_for setting codes) currents sheet
+  pub upper_enveloped : {sheet : List ℕ} {currents : Currents} → r ≡ false → Evaluated setting.table.now (sheet_for setting codes) currents sheet
       → (currents.drop ≡ upper_of setting codes) × (currents.drop < drop_limit)
   unfolding own_upper
   upper_enveloped t e = (
     ap (λ (c : Currents). c.drop) e.answered
-        ∙ sym (evaluation_undecided (simulated_drop file table) (envelope_drop file setting.hops table) (sets_in setting.inputs codes) (sym test ∙ t)),
+        ∙ sym (evaluation_undecided (pattern_drop setting) (case_drop setting) (sets_in setting.inputs codes) (sym test ∙ t)),
     e.low,
   )

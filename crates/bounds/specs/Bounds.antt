@@ -29,9 +29,19 @@ sheet_over file hops = cases_sheet (simulated_sheet file) (envelope_sheet hops f
 unfoldable pub own_upper : File → ℕ → List ℕ → Case → ℕ
 own_upper file hops table = evaluation_of (simulated_drop file table) (envelope_drop file hops table)
 
+-- The drops of a pattern and of a case, and the sheet of the case with these codes, under a setting.
+abbrev pub pattern_drop : Setting → List Excitation → ℕ
+pattern_drop setting = simulated_drop setting.file.now setting.table.now
+
+abbrev pub case_drop : Setting → Case → ℕ
+case_drop setting = envelope_drop setting.file.now setting.hops setting.table.now
+
+abbrev pub case_sheet : Setting → List ℕ → Sheet
+case_sheet setting codes = evaluation_of (simulated_sheet setting.file.now) (envelope_sheet setting.hops setting.file.now) (sets_in setting.inputs codes)
+
 -- The drop of a case's probe, given the codes of the case's sets.
 abbrev pub probe_drop : Setting → List ℕ → ℕ
-probe_drop setting codes = simulated_drop setting.file.now setting.table.now (probe (sets_in setting.inputs codes))
+probe_drop setting codes = pattern_drop setting (probe (sets_in setting.inputs codes))
 
 -- The upper number before the cap of the case with these codes.
 abbrev pub upper_of : Setting → List ℕ → ℕ
@@ -41,7 +51,7 @@ upper_of setting codes = own_upper setting.file.now setting.hops setting.table.n
 pub record CaseEvaluated (setting : Setting) (codes : List ℕ) (upper : ℕ) (sheet : List ℕ) : Type 0 where
   pub is : upper ≡ upper_of setting codes
   pub low : upper < drop_limit
-  pub written : sheet ≡ sheet_words (evaluation_of (simulated_sheet setting.file.now) (envelope_sheet setting.hops setting.file.now) (sets_in setting.inputs codes))
+  pub written : sheet ≡ sheet_words (case_sheet setting codes)
 
 -- A case bounded: its record.
 pub record CaseBounded (setting : Setting) (codes : List ℕ) (cap at : ℕ) (store store' : List ℕ) : Type 0 where

@@ -2,10 +2,9 @@
 ghost use Rattle.std.specs.Prelude.{◌≡◌, ◌*◌, max, length, get_or, drop};
 ghost use Rattle.laws.specs.Rewritten.{Rewritten};
 ghost use Rattle.sheet.specs.Sheet.{sheet_words};
-ghost use Rattle.cases.specs.Case.{evaluation_of};
-ghost use Rattle.cases.specs.Records.{cases_in, case_in, HasCases, HasCase, SetCodes};
-ghost use Rattle.evaluation.specs.Evaluation.{simulated_sheet, envelope_sheet, Evaluable};
-ghost use Rattle.bounds.specs.Bounds.{sheet_over};
+ghost use Rattle.cases.specs.Records.{cases_in, HasCases, HasCase, SetCodes};
+ghost use Rattle.evaluation.specs.Evaluation.{Evaluable};
+ghost use Rattle.bounds.specs.Bounds.{case_sheet, sheet_over};
 
 use super::evaluate;
 use cases::{CaseNumber, store};
@@ -31,7 +30,7 @@ fn draw_case(
     work: &mut [u8],
 )
     requires { Evaluable setting sheet.old work.old × HasCase store.now k.0 × SetCodes setting.inputs (drop (72 * k.0) store.now) }
-    ensures { sheet.new ≡ sheet_words (evaluation_of (simulated_sheet setting.entry.file.now) (envelope_sheet setting.entry.hops setting.entry.file.now) (case_in setting.entry.inputs store.now k.0).sets) }
+    ensures { sheet.new ≡ sheet_words (case_sheet setting.entry (drop (72 * k.0) store.now)) }
 {
     let mut codes = [0u8; 64];
     store::read_sets(store, k, &mut codes);

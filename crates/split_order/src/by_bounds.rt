@@ -3,13 +3,13 @@ ghost use Rattle.std.specs.Prelude.{true, false, [], ◌∷◌, ◌≡◌, ◌+�
 ghost use Rattle.excitation.specs.UncertaintySet.{decode};
 ghost use Rattle.block.specs.Verdict.{verdict};
 ghost use Rattle.operation.specs.SplitOrder.{list_bytes};
-ghost use Rattle.evaluation.specs.Evaluation.{Evaluable};
+ghost use Rattle.evaluation.specs.Evaluation.{HasRows, Evaluable};
 ghost use Rattle.cases.specs.Case.{undecided};
 ghost use Rattle.cases.specs.Records.{SetCodes};
 ghost use Rattle.bounds.specs.Bounds.{upper_of};
 ghost use Rattle.split_order.specs.Sorting.{four_of, KeysMade, SortsBy};
 ghost use Rattle.split_order.specs.SplitOrder.{bound_order_checks, frame_order, BoundOrdered};
-ghost use Rattle.split_order.specs.Trying.{Triable, decided_key, UntriedKey, TriedBelow, TriedKey, tighter_in};
+ghost use Rattle.split_order.specs.Trying.{decided_key, UntriedKey, TriedBelow, TriedKey, tighter_in};
 
 use super::key::Four;
 use super::sort;
@@ -61,9 +61,7 @@ fn untried_keys(codes: &[u8; 64], inputs: usize) -> [Four; 64]
 // Tries the child whose input has the excitation of byte e, where the frame's set allows it: puts its upper number among those of the
 // children before it.
 fn try_child(
-    file: &[u8],
-    setting: Setting,
-    table: &[u16],
+    setting: Setting<'_>,
     frame: &[u8; 64],
     input: Net,
     e: u8,
@@ -72,8 +70,8 @@ fn try_child(
     sheet: &mut [Word],
     work: &mut [u8],
 ) -> Four
-    requires { Evaluable file.now setting sheet.old work.old × SetCodes setting.inputs frame.now × (input.0 < setting.inputs) × (e < 4) × (cap ≡ upper_of file.now setting table.now frame.now) × TriedBelow file.now setting table.now frame.now input.0 e tried }
-    ensures { TriedBelow file.now setting table.now frame.now input.0 (e + 1) result }
+    requires { Evaluable setting sheet.old work.old × SetCodes setting.inputs frame.now × (input.0 < setting.inputs) × (e < 4) × (cap ≡ upper_of setting frame.now) × TriedBelow setting frame.now input.0 e tried }
+    ensures { TriedBelow setting.entry frame.now input.0 (e + 1) result }
 {
     let net = input.0;
     let set = Set { code: frame[net] };
@@ -81,23 +79,21 @@ fn try_child(
         return tried;
     }
     let codes = sets::child_codes(frame, input, e);
-    let own = evaluate::evaluate_case(file, setting, table, &codes, sheet, work);
+    let own = evaluate::evaluate_case(setting, &codes, sheet, work);
     tried.put(cap.min(own))
 }
 
 // Tries an input of the frame: its children's upper numbers in falling order, filled with 0 to four. A decided one is not tried.
 fn try_input(
-    file: &[u8],
-    setting: Setting,
-    table: &[u16],
+    setting: Setting<'_>,
     frame: &[u8; 64],
     input: Net,
     cap: u64,
     sheet: &mut [Word],
     work: &mut [u8],
 ) -> Four
-    requires { Evaluable file.now setting sheet.old work.old × SetCodes setting.inputs frame.now × (input.0 < setting.inputs) × (cap ≡ upper_of file.now setting table.now frame.now) }
-    ensures { TriedKey file.now setting table.now frame.now input.0 (four_of result) }
+    requires { Evaluable setting sheet.old work.old × SetCodes setting.inputs frame.now × (input.0 < setting.inputs) × (cap ≡ upper_of setting frame.now) }
+    ensures { TriedKey setting.entry frame.now input.0 (four_of result) }
 {
     let net = input.0;
     if !sets::is_undecided(frame[net]) {
@@ -106,7 +102,7 @@ fn try_input(
     let mut tried = Four::alone(0);
     for e in 0..4 {
         tried = try_child(
-            file, setting, table, frame, input, e, cap, tried, sheet, work,
+            setting, frame, input, e, cap, tried, sheet, work,
         );
     }
     tried
@@ -114,49 +110,45 @@ fn try_input(
 
 // Tries every undecided input: the numbers of all. The sheet is scratch, and the call's own.
 fn tried_keys(
-    file: &[u8],
-    setting: Setting,
-    table: &[u16],
+    setting: Setting<'_>,
     frame: &[u8; 64],
     work: &mut [u8],
 ) -> [Four; 64]
-    requires { Triable file.now setting work.old × SetCodes setting.inputs frame.now }
-    ensures { KeysMade (TriedKey file.now setting table.now frame.now) setting.inputs result }
+    requires { HasRows work.old setting.nets × SetCodes setting.inputs frame.now }
+    ensures { KeysMade (TriedKey setting.entry frame.now) setting.entry.inputs result }
 {
     let mut keys = [Four::alone(0); 64];
     let mut sheet: [Word; 8192] = [0; 8192];
-    let cap = evaluate::evaluate_case(file, setting, table, frame, &mut sheet, work);
+    let cap = evaluate::evaluate_case(setting, frame, &mut sheet, work);
     for net in 0..setting.inputs {
-        keys[net] = try_input(file, setting, table, frame, Net(net), cap, &mut sheet, work);
+        keys[net] = try_input(setting, frame, Net(net), cap, &mut sheet, work);
     }
     keys
 }
 
 // The numbers of the inputs. Of fewer than two undecided inputs none has to be tried.
 fn bound_keys(
-    file: &[u8],
-    setting: Setting,
-    table: &[u16],
+    setting: Setting<'_>,
     frame: &[u8; 64],
     work: &mut [u8],
 ) -> [Four; 64]
-    requires { Triable file.now setting work.old × SetCodes setting.inputs frame.now }
-    ensures { SortsBy (tighter_in file.now setting table.now frame.now) setting.inputs result }
+    requires { HasRows work.old setting.nets × SetCodes setting.inputs frame.now }
+    ensures { SortsBy (tighter_in setting.entry frame.now) setting.entry.inputs result }
 {
     if undecided_inputs(frame, setting.inputs) < 2 {
         return untried_keys(frame, setting.inputs);
     }
-    tried_keys(file, setting, table, frame, work)
+    tried_keys(setting, frame, work)
 }
 
 // The list of an accepted file, with arguments that passed.
-fn list_by_bounds(file: &[u8], setting: Setting, table: &[u16], work: &mut [u8]) -> [u8; 64]
-    requires { Triable file.now setting work.old }
-    ensures { result ≡ list_bytes (frame_order file.now setting.hops table.now) }
+fn list_by_bounds(setting: Setting<'_>, work: &mut [u8]) -> [u8; 64]
+    requires { HasRows work.old setting.nets }
+    ensures { result ≡ list_bytes (frame_order setting.entry.file.now setting.entry.hops setting.entry.table.now) }
 {
     let mut frame = [0u8; 64];
-    block::frame_codes(file, setting.inputs, &mut frame);
-    let keys = bound_keys(file, setting, table, &frame, work);
+    block::frame_codes(setting.file, setting.inputs, &mut frame);
+    let keys = bound_keys(setting, &frame, work);
     sort::sorted(&keys, setting.inputs)
 }
 
@@ -182,12 +174,14 @@ pub fn bound_order(
     let Counts { nets, inputs } = block::read(file)?;
     check_arguments(nets, hops, table.len(), work.len())?;
     let setting = Setting {
+        file,
+        table,
         nets,
         inputs,
         hops: hops as usize,
     };
     Ok(SplitOrder {
         inputs,
-        nets: list_by_bounds(file, setting, table, work),
+        nets: list_by_bounds(setting, work),
     })
 }

@@ -10,12 +10,12 @@ use Rattle.split_order.proofs.by_bounds.try_child.Goals as goal
 
 pub returns-then-not-contains : goal.returns-then-not-contains
 returns-then-not-contains c =
-    tried_skipped _ c.args.setting _ _ c.args.input.0 c.requires.2 c.args.e c.excitation_of.ensures c.contains.ensures c.requires.5 (ap not c.if-not-contains.true)
+    tried_skipped c.args.setting _ c.args.input.0 c.requires.2 c.args.e c.excitation_of.ensures c.contains.ensures c.requires.5 (ap not c.if-not-contains.true)
 
 pub evaluate_case-own-requires : goal.evaluate_case-own-requires
 evaluate_case-own-requires c =
     let coded = c.child_codes-codes.ensures in
-    let few = c.requires.0.accepted.few_inputs in (
+    let few = c.args.setting.accepted.few_inputs in (
       c.requires.0,
       ap length coded ∙ length-set c.args.frame.now _ _ ∙ c.told-frame,
       subst (SetCodes c.args.setting.inputs) (sym coded) (child_coded _ few c.args.frame.now c.told-frame c.args.input.0 c.requires.2 c.args.e c.requires.1),
@@ -23,6 +23,6 @@ evaluate_case-own-requires c =
 
 pub returns : goal.returns
 returns c =
-    tried_more _ c.args.setting _ _ c.args.input.0 c.requires.2 c.args.e c.excitation_of.ensures c.contains.ensures
-    c.requires.5 c.requires.0.accepted.few_inputs c.told-frame c.requires.3 (ap not c.if-not-contains.false) c.child_codes-codes.ensures c.requires.4
+    tried_more c.args.setting _ c.args.input.0 c.requires.2 c.args.e c.excitation_of.ensures c.contains.ensures
+    c.requires.5 c.told-frame c.requires.3 (ap not c.if-not-contains.false) c.child_codes-codes.ensures c.requires.4
     c.evaluate_case-own.ensures c.min.ensures c.put.ensures

@@ -9,12 +9,12 @@ use Rattle.split_order.proofs.by_bounds.try_input.Goals as goal
 
 pub loop-e-init : goal.loop-e-init
 loop-e-init c = (
-  subst (TriedBelow c.args.file.now c.args.setting c.args.table.now c.args.frame.now c.args.input.0 0) (sym c.alone-tried.ensures)
-      (tried_none _ c.args.setting _ _ c.args.input.0),
+  subst (TriedBelow c.args.setting c.args.frame.now c.args.input.0 0) (sym c.alone-tried.ensures)
+      (tried_none c.args.setting _ c.args.input.0),
   refl,
   refl,
 )
 
 pub returns : goal.returns
 returns c =
-    tried_key _ c.args.setting _ _ c.args.input.0 (omega arith) c.is_undecided.ensures (ap not c.if-not-is_undecided.false) c.loop-e.invariant.0
+    tried_key c.args.setting _ c.args.input.0 (omega arith) c.is_undecided.ensures (ap not c.if-not-is_undecided.false) c.loop-e.invariant.0

@@ -6,4 +6,4 @@ use lib.ListN.{length}
 use Rattle.split_order.proofs.by_bounds.try_input.Given as goal
 
 abbrev pub invariant-loop-e : goal.invariant-loop-e
-invariant-loop-e l = TriedBelow l.file l.setting l.table l.frame l.input.0 l.e l.tried × (length l.sheet ≡ length l.initial.sheet) × (length l.work ≡ length l.initial.work)
+invariant-loop-e l = TriedBelow l.setting l.frame l.input.0 l.e l.tried × (length l.sheet ≡ length l.initial.sheet) × (length l.work ≡ length l.initial.work)
