@@ -18,22 +18,22 @@ use Rattle.cases.specs.Case.{first_allowed, probe}
 use Rattle.cases.specs.Records.{child_codes}
 use Rattle.cases.proofs.Children.{child_probe}
 use Rattle.evaluation.specs.declared.Setting.{Setting}
-use Rattle.bounds.specs.Bounds.{simulated_drop, probe_drop, CaseBounded, CaseMade}
+use Rattle.bounds.specs.Bounds.{pattern_drop, probe_drop, CaseBounded, CaseMade}
 use Rattle.search.specs.Steps.{ChildMade}
 use Rattle.search.specs.declared.split.Step.{Step}
 
 -- The probe's drop of the child that has its parent's probe is below the threshold where the parent's is.
-pub child_below : (file : File) (setting : Setting) (table parent : List ℕ) (input e : ℕ) {codes : List ℕ} {first threshold : ℕ} → setting.inputs ≤ 64
+pub child_below : (setting : Setting) (parent : List ℕ) (input e : ℕ) {codes : List ℕ} {first threshold : ℕ}
     → length parent ≡ 64 → input < setting.inputs → codes ≡ child_codes parent input e → first ≡ byte_of (first_allowed (decode (get_or parent input 0)))
-    → probe_drop file setting table parent < threshold → eqb e first ≡ true → probe_drop file setting table codes < threshold
-child_below file setting table parent input e {codes} {first} {threshold} few long inside coded is below test =
-    let same = ap (λ bytes. probe (sets_in setting.inputs bytes)) coded ∙ child_probe setting.inputs few parent long input inside e (eqb-true e first test ∙ is) in
-    subst (λ pattern. simulated_drop file table pattern < threshold) (sym same) below
+    → probe_drop setting parent < threshold → eqb e first ≡ true → probe_drop setting codes < threshold
+child_below setting parent input e {codes} {first} {threshold} long inside coded is below test =
+    let same = ap (λ bytes. probe (sets_in setting.inputs bytes)) coded ∙ child_probe setting.inputs setting.accepted.few_inputs parent long input inside e (eqb-true e first test ∙ is) in
+    subst (λ pattern. pattern_drop setting pattern < threshold) (sym same) below
 
 -- A case bounded whose probe's drop is below the threshold is made: no probe is better.
-pub bounded_made : {file : File} {setting : Setting} {table codes : List ℕ} {cap threshold at : ℕ} {store store' pattern : List ℕ}
-    → CaseBounded file setting table codes cap at store store' → probe_drop file setting table codes < threshold → threshold ≤ drop_limit
-    → CaseMade file setting table codes cap threshold at store pattern threshold store' pattern
+pub bounded_made : {setting : Setting} {codes : List ℕ} {cap threshold at : ℕ} {store store' pattern : List ℕ}
+    → CaseBounded setting codes cap at store store' → probe_drop setting codes < threshold → threshold ≤ drop_limit
+    → CaseMade setting codes cap threshold at store pattern threshold store' pattern
 bounded_made bounded below low = record {
   stored = bounded.stored;
   upper_low = bounded.upper_low;
@@ -48,12 +48,12 @@ allowed_is : (parent : List ℕ) (input e : ℕ) {x : Excitation} {allowed : Boo
     → allowed ≡ member x (decode (get_or parent input 0)) → allowed ≡ member (excitation_of e) (decode (get_or parent input 0))
 allowed_is parent input e is tested = tested ∙ ap (λ x. member x (decode (get_or parent input 0))) is
 
-pub child_made : {file : File} {setting : Setting} {table parent : List ℕ} {input e cap : ℕ} {step : Step} {store pattern : List ℕ}
+pub child_made : {setting : Setting} {parent : List ℕ} {input e cap : ℕ} {step : Step} {store pattern : List ℕ}
     {x : Excitation} {allowed : Bool} {codes : List ℕ} {threshold : ℕ} {after : Step} {store' pattern' : List ℕ}
     → x ≡ excitation_of e → allowed ≡ member x (decode (get_or parent input 0)) → not allowed ≡ false
-    → codes ≡ child_codes parent input e → CaseMade file setting table codes cap step.threshold step.next.0 store pattern threshold store' pattern'
+    → codes ≡ child_codes parent input e → CaseMade setting codes cap step.threshold step.next.0 store pattern threshold store' pattern'
     → after ≡ record { cases = max (step.next.0 + 1) step.cases; next = record { 0 = max (step.next.0 + 1) step.cases }; threshold = threshold }
-    → ChildMade file setting table parent input e cap step store pattern after store' pattern'
+    → ChildMade setting parent input e cap step store pattern after store' pattern'
 child_made {parent} {input} {e} is tested h coded made moved =
     let yes = confirmed (allowed_is parent input e is tested) h in
     record {

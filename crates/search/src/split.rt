@@ -5,7 +5,7 @@ ghost use Rattle.operation.specs.SplitOrder.{NetsListed};
 ghost use Rattle.cases.specs.Probes.{ProbesCovered};
 ghost use Rattle.cases.specs.Records.{HasCase, SetCodes};
 ghost use Rattle.evaluation.specs.Evaluation.{Evaluable};
-ghost use Rattle.bounds.specs.Bounds.{simulated_drop, probe_drop};
+ghost use Rattle.bounds.specs.Bounds.{pattern_drop, probe_drop};
 ghost use Rattle.search.specs.Steps.{state_in, ChildMade, Running, CaseToSplit, CaseSplit};
 
 use block::Net;
@@ -41,9 +41,7 @@ impl Step {
 // Makes the child whose input has the excitation of byte e, where the parent's set allows it. The child of the first allowed has its
 // parent's probe, whose drop is known to be below the threshold.
 fn make_child(
-    file: &[u8],
-    setting: Setting,
-    table: &[u16],
+    setting: Setting<'_>,
     parent: &[u8],
     input: Net,
     e: u8,
@@ -54,8 +52,8 @@ fn make_child(
     work: &mut [u8],
     store: &mut [u8],
 ) -> Step
-    requires { Evaluable file.now setting sheet.old work.old × (length parent.now ≡ 64) × SetCodes setting.inputs parent.now × (input.0 < setting.inputs) × (e < 4) × (length pattern.old ≡ 64) × HasCase store.old step.next.0 × (step.threshold ≤ drop_limit) × (probe_drop file.now setting table.now parent.now < step.threshold) }
-    ensures { ChildMade file.now setting table.now parent.now input.0 e cap step store.old pattern.old result store.new pattern.new }
+    requires { Evaluable setting sheet.old work.old × (length parent.now ≡ 64) × SetCodes setting.inputs parent.now × (input.0 < setting.inputs) × (e < 4) × (length pattern.old ≡ 64) × HasCase store.old step.next.0 × (step.threshold ≤ drop_limit) × (probe_drop setting parent.now < step.threshold) }
+    ensures { ChildMade setting.entry parent.now input.0 e cap step store.old pattern.old result store.new pattern.new }
 {
     let net = input.0;
     let code = parent[net];
@@ -67,14 +65,12 @@ fn make_child(
     let known = e == sets::first_allowed(code);
     if known {
         make::bound_case(
-            file, setting, table, &codes, cap, step.next, sheet, work, store,
+            setting, &codes, cap, step.next, sheet, work, store,
         );
         return step.child_made(step.threshold);
     }
     let threshold = make::make_case(
-        file,
         setting,
-        table,
         &codes,
         cap,
         step.threshold,
@@ -89,9 +85,7 @@ fn make_child(
 
 // Splits case k, the first of the greatest upper number, which is the cap of its children.
 pub fn split(
-    file: &[u8],
-    setting: Setting,
-    table: &[u16],
+    setting: Setting<'_>,
     order: &[u8],
     k: CaseNumber,
     cap: u64,
@@ -102,8 +96,8 @@ pub fn split(
     work: &mut [u8],
     store: &mut [u8],
 ) -> Step
-    requires { Evaluable file.now setting sheet.old work.old × Running setting.inputs n threshold store.old pattern.old × CaseToSplit setting.inputs n store.old k.0 cap × NetsListed setting.inputs order.now × (72 * (n + 3) ≤ length store.old) × (n + 3 ≤ 30001) × ProbesCovered (simulated_drop file.now table.now) (state_in setting.inputs n threshold store.old pattern.old) }
-    ensures { CaseSplit file.now setting table.now order.now n threshold store.old pattern.old result.cases result.threshold store.new pattern.new }
+    requires { Evaluable setting sheet.old work.old × Running setting.inputs n threshold store.old pattern.old × CaseToSplit setting.inputs n store.old k.0 cap × NetsListed setting.inputs order.now × (72 * (n + 3) ≤ length store.old) × (n + 3 ≤ 30001) × ProbesCovered (pattern_drop setting) (state_in setting.inputs n threshold store.old pattern.old) }
+    ensures { CaseSplit setting.entry order.now n threshold store.old pattern.old result.cases result.threshold store.new pattern.new }
 {
     let mut parent = [0u8; 64];
     store::read_sets(store, k, &mut parent);
@@ -115,7 +109,7 @@ pub fn split(
     };
     for e in 0..4 {
         step = make_child(
-            file, setting, table, &parent, input, e, cap, step, sheet, pattern, work, store,
+            setting, &parent, input, e, cap, step, sheet, pattern, work, store,
         );
     }
     step

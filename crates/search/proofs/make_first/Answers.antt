@@ -7,7 +7,7 @@ use Rattle.search.proofs.make_first.Goals as goal
 
 pub make_case-requires : goal.make_case-requires
 make_case-requires c =
-    let file = c.requires.0.accepted in (
+    let file = c.args.setting.accepted in (
       c.requires.0,
       codes_long file c.frame_codes.ensures,
       frame_coded file c.frame_codes.ensures,
@@ -17,4 +17,4 @@ make_case-requires c =
 
 pub returns : goal.returns
 returns c =
-    first_made c.requires.0.accepted c.frame_codes.ensures c.make_case.ensures (omega arith) c.requires.1 c.requires.2
+    first_made c.frame_codes.ensures c.make_case.ensures (omega arith) c.requires.1 c.requires.2

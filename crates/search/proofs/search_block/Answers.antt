@@ -20,4 +20,6 @@ run-ended-requires c =
     )
 
 pub returns : goal.returns
-returns c = block_searched _ c.requires.0.accepted refl c.make_first-threshold.ensures c.run-ended.ensures c.draw_cases.ensures c.quiet_tick-quiet.ensures
+returns c = 
+    block_searched c.args.setting c.args.limits.ratio c.args.limits.budget c.args.order.now c.args.sheet.now c.args.pattern.now c.args.work.now
+    c.args.store.now c.make_first-threshold.ensures c.run-ended.ensures c.draw_cases.ensures c.quiet_tick-quiet.ensures

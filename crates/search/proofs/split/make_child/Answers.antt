@@ -11,7 +11,7 @@ use Rattle.search.proofs.split.make_child.Goals as goal
 
 pub bound_case-requires : goal.bound_case-requires
 bound_case-requires c =
-    let few = c.requires.0.accepted.few_inputs in
+    let few = c.args.setting.accepted.few_inputs in
     let parent = c.args.parent.now in
     let input = c.args.input.0 in
     let codes = c.child_codes-codes.ensures in (
@@ -23,14 +23,14 @@ bound_case-requires c =
 
 pub returns-then-known : goal.returns-then-known
 returns-then-known c =
-    let below = child_below c.args.file.now c.args.setting c.args.table.now c.args.parent.now c.args.input.0 c.args.e c.requires.0.accepted.few_inputs c.requires.1
+    let below = child_below c.args.setting c.args.parent.now c.args.input.0 c.args.e c.requires.1
     c.requires.3 c.child_codes-codes.ensures c.first_allowed.ensures c.requires.8 (eq-eqb _ _ c.if-known.true) in
     child_made c.excitation_of.ensures c.contains.ensures (ap not c.if-not-contains.false) c.child_codes-codes.ensures
     (bounded_made c.bound_case.ensures below (omega (arith, c.requires.7))) c.child_made.ensures
 
 pub make_case-threshold-requires : goal.make_case-threshold-requires
 make_case-threshold-requires c =
-    let few = c.requires.0.accepted.few_inputs in
+    let few = c.args.setting.accepted.few_inputs in
     let parent = c.args.parent.now in
     let input = c.args.input.0 in
     let codes = c.child_codes-codes.ensures in (

@@ -21,27 +21,26 @@ make_child-step-requires c =
     let room = child_room c.requires.2.inside below c.requires.5 c.requires.4 at.invariant.2 in (
       evaluable_kept ready at.invariant.0 at.invariant.1,
       copied.long ∙ length-replicate {A = ℕ} 64 0,
-      codes_copied c.args.setting.inputs ready.accepted.few_inputs c.args.store.now c.args.k.0 _ _ copied
+      codes_copied c.args.setting.inputs c.args.setting.accepted.few_inputs c.args.store.now c.args.k.0 _ _ copied
           (c.requires.1.cases.codes c.args.k.0 c.requires.2.inside),
       c.choose-input.ensures.1,
       below,
       at.invariant.2.best.long ∙ c.requires.1.pattern_long,
       room,
       at.invariant.2.best.threshold_high,
-      parent_below ready.accepted.few_inputs c.requires.1 c.requires.2.inside c.requires.6 copied at.invariant.2,
+      parent_below c.requires.1 c.requires.2.inside c.requires.6 copied at.invariant.2,
     )
 
 pub loop-e-preserved : goal.loop-e-preserved
 loop-e-preserved c =
     let made = c.make_child-step in
     let at = c.loop-e in
-    let accepted = c.requires.0.accepted in
     let copied = c.read_sets.ensures in (
       made.auto.sheet ∙ at.invariant.0,
       made.auto.work ∙ at.invariant.1,
-      splitting_next c.requires.2.inside c.loop-e-test.true c.requires.5 c.requires.4 at.invariant.2 accepted.few_inputs
+      splitting_next c.requires.2.inside c.loop-e-test.true c.requires.5 c.requires.4 at.invariant.2
           (copied.long ∙ length-replicate {A = ℕ} 64 0)
-          (codes_copied c.args.setting.inputs accepted.few_inputs c.args.store.now c.args.k.0 _ _ copied
+          (codes_copied c.args.setting.inputs c.args.setting.accepted.few_inputs c.args.store.now c.args.k.0 _ _ copied
           (c.requires.1.cases.codes c.args.k.0 c.requires.2.inside))
           c.choose-input.ensures.1 made.ensures,
     )
@@ -49,5 +48,5 @@ loop-e-preserved c =
 pub returns : goal.returns
 returns c =
     let done = c.loop-e in
-    case_split c.args.order.now c.requires.0.accepted c.requires.1 c.requires.2 c.read_sets.ensures c.choose-input.ensures.0
+    case_split c.args.order.now c.requires.1 c.requires.2 c.read_sets.ensures c.choose-input.ensures.0
     (omega arith) done.invariant.2
