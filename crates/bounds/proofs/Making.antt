@@ -16,26 +16,22 @@ use Rattle.operation.specs.declared.Currents.{Currents}
 use Rattle.evaluation.specs.Evaluation.{InputCodes, sheet_for, Evaluated}
 use Rattle.evaluation.specs.declared.Setting.{Setting}
 use Rattle.simulator.specs.Simulate.{SinglesEvaluated}
-use Rattle.cases.specs.Case.{decided, first_allowed}
+use Rattle.cases.specs.Case.{decided}
+use Rattle.cases.specs.Records.{ProbeCodes}
 use Rattle.cases.proofs.Cases.{evaluation_decided, evaluation_undecided}
 use Rattle.cases.proofs.Singles.{probe_sets}
 use Rattle.bounds.specs.Bounds.{pattern_drop, case_drop, own_upper, probe_drop, upper_of}
 
 -- The drop of a probe, simulated by the codes of its single sets.
 
-pub probe_codes : {inputs : ℕ} (codes : List ℕ) {given singles : List ℕ} → inputs ≤ length given
-    → Rewritten (λ net. code (single (first_allowed (decode (get_or codes net 0))))) 0 inputs given singles → InputCodes inputs singles
-probe_codes {inputs} codes {given} {singles} room written = record {
-  enough = omega (arith, written.long);
-  low = λ net h. subst (λ x. x < 16) (sym (rewritten_first _ inputs given singles written net h)) (code_below _);
-}
+pub probe_codes : {inputs : ℕ} {codes singles : List ℕ} → ProbeCodes inputs codes singles → InputCodes inputs singles
+probe_codes coded net h = subst (λ x. x < 16) (sym (coded.at net h)) (code_below _)
 
-pub probe_simulated : {given singles words : List ℕ} {answer : Currents} (setting : Setting) (codes : List ℕ)
-    → Rewritten (λ net. code (single (first_allowed (decode (get_or codes net 0))))) 0 setting.inputs given singles
+pub probe_simulated : {codes singles words : List ℕ} {answer : Currents} (setting : Setting) → ProbeCodes setting.inputs codes singles
     → SinglesEvaluated setting singles answer words
     → (answer.drop ≡ probe_drop setting codes) × (answer.drop < drop_limit)
-probe_simulated setting codes written e =
-    let is = e _ (probe_sets setting.inputs codes written) in
+probe_simulated setting coded e =
+    let is = e _ (probe_sets coded) in
     (ap (λ (c : Currents). c.drop) is.answered, is.low)
 
 -- The upper number of a case before the cap, by the test whether every input is decided.

@@ -32,8 +32,7 @@ fn draw_case(
     requires { Evaluable setting sheet.old work.old × HasCase store.now k.0 × SetCodes setting.inputs (drop (72 * k.0) store.now) }
     ensures { sheet.new ≡ sheet_words (case_sheet setting.entry (drop (72 * k.0) store.now)) }
 {
-    let mut codes = [0u8; 64];
-    store::read_sets(store, k, &mut codes);
+    let codes = store::read_sets(store, k);
     evaluate::evaluate_case(setting, &codes, sheet, work);
 }
 

@@ -11,11 +11,11 @@ use sheet::Word;
 // Draws the sheet of a case, and returns its upper number before the cap, which is the sheet's drop. No probe is simulated.
 pub fn evaluate_case(
     setting: Setting<'_>,
-    codes: &[u8],
+    codes: &[u8; 64],
     sheet: &mut [Word],
     work: &mut [u8],
 ) -> u64
-    requires { Evaluable setting sheet.old work.old × (length codes.now ≡ 64) × SetCodes setting.inputs codes.now }
+    requires { Evaluable setting sheet.old work.old × SetCodes setting.inputs codes.now }
     ensures { CaseEvaluated setting.entry codes.now result sheet.new }
 {
     let decided = sets::is_decided(codes, setting.inputs);

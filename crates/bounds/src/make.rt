@@ -15,15 +15,14 @@ use sheet::Word;
 // The drop of a case's probe.
 fn probe_drop(
     setting: Setting<'_>,
-    codes: &[u8],
+    codes: &[u8; 64],
     sheet: &mut [Word],
     work: &mut [u8],
 ) -> u64
-    requires { Evaluable setting sheet.old work.old × (length codes.now ≡ 64) }
+    requires { Evaluable setting sheet.old work.old }
     ensures { (result ≡ probe_drop setting.entry codes.now) × (result < drop_limit) }
 {
-    let mut singles = [0u8; 64];
-    sets::write_probe_codes(codes, setting.inputs, &mut singles);
+    let singles = sets::probe_codes(codes, setting.inputs);
     let currents = simulator::evaluate_singles(setting, &singles, sheet, work);
     currents.drop
 }
@@ -31,12 +30,12 @@ fn probe_drop(
 // The upper number of a case before the cap, from the drop of its probe.
 fn own_upper(
     setting: Setting<'_>,
-    codes: &[u8],
+    codes: &[u8; 64],
     drop: u64,
     sheet: &mut [Word],
     work: &mut [u8],
 ) -> u64
-    requires { Evaluable setting sheet.old work.old × (length codes.now ≡ 64) × SetCodes setting.inputs codes.now × (drop ≡ probe_drop setting codes.now) × (drop < drop_limit) }
+    requires { Evaluable setting sheet.old work.old × SetCodes setting.inputs codes.now × (drop ≡ probe_drop setting codes.now) × (drop < drop_limit) }
     ensures { (result ≡ upper_of setting.entry codes.now) × (result < drop_limit) }
 {
     let decided = sets::is_decided(codes, setting.inputs);
@@ -51,14 +50,14 @@ fn own_upper(
 // decided, for its upper number.
 pub fn bound_case(
     setting: Setting<'_>,
-    codes: &[u8],
+    codes: &[u8; 64],
     cap: u64,
     at: CaseNumber,
     sheet: &mut [Word],
     work: &mut [u8],
     store: &mut [u8],
 )
-    requires { Evaluable setting sheet.old work.old × (length codes.now ≡ 64) × SetCodes setting.inputs codes.now × HasCase store.old at.0 }
+    requires { Evaluable setting sheet.old work.old × SetCodes setting.inputs codes.now × HasCase store.old at.0 }
     ensures { CaseBounded setting.entry codes.now cap at.0 store.old store.new }
 {
     let upper = evaluate::evaluate_case(setting, codes, sheet, work);
@@ -69,7 +68,7 @@ pub fn bound_case(
 // to reach.
 pub fn make_case(
     setting: Setting<'_>,
-    codes: &[u8],
+    codes: &[u8; 64],
     cap: u64,
     threshold: u64,
     at: CaseNumber,
@@ -78,7 +77,7 @@ pub fn make_case(
     work: &mut [u8],
     store: &mut [u8],
 ) -> u64
-    requires { Evaluable setting sheet.old work.old × (length codes.now ≡ 64) × SetCodes setting.inputs codes.now × (length pattern.old ≡ 64) × HasCase store.old at.0 }
+    requires { Evaluable setting sheet.old work.old × SetCodes setting.inputs codes.now × (length pattern.old ≡ 64) × HasCase store.old at.0 }
     ensures { CaseMade setting.entry codes.now cap threshold at.0 store.old pattern.old result store.new pattern.new }
 {
     let drop = probe_drop(setting, codes, sheet, work);

@@ -1,10 +1,10 @@
 // The sets of a case, by their codes: a byte for each input.
-ghost use Rattle.std.specs.Prelude.{◌≡◌, ◌≤◌, ◌<◌, length, get_or};
+ghost use Rattle.std.specs.Prelude.{◌≡◌, ◌≤◌, ◌<◌, length};
 ghost use Rattle.laws.specs.Rewritten.{Rewritten};
 ghost use Rattle.excitation.specs.Excitation.{byte_of};
-ghost use Rattle.excitation.specs.UncertaintySet.{code, decode, single, sets_in};
+ghost use Rattle.excitation.specs.UncertaintySet.{decode, sets_in};
 ghost use Rattle.cases.specs.Store.{pattern_byte};
-ghost use Rattle.cases.specs.Records.{child_codes};
+ghost use Rattle.cases.specs.Records.{ProbeCodes, child_codes};
 ghost use Rattle.cases.specs.Case.{undecided, decided, first_allowed, probe};
 
 use block::Net;
@@ -19,8 +19,8 @@ pub fn is_undecided(code: u8) -> bool
 }
 
 // Whether every input is decided.
-pub fn is_decided(codes: &[u8], inputs: usize) -> bool
-    requires { inputs ≤ length codes.now }
+pub fn is_decided(codes: &[u8; 64], inputs: usize) -> bool
+    requires { inputs ≤ 64 }
     ensures { result ≡ decided (sets_in inputs codes.now) }
 {
     codes[..inputs].iter().all(|code| !is_undecided(*code))
@@ -45,20 +45,22 @@ pub fn first_allowed(code: u8) -> u8
     0
 }
 
-// Writes the codes of the single sets of a case's probe.
-pub fn write_probe_codes(codes: &[u8], inputs: usize, singles: &mut [u8])
-    requires { (inputs ≤ length codes.now) × (inputs ≤ length singles.old) }
-    ensures { Rewritten (λ net. code (single (first_allowed (decode (get_or codes.now net 0))))) 0 inputs singles.old singles.new }
+// The codes of the single sets of a case's probe.
+pub fn probe_codes(codes: &[u8; 64], inputs: usize) -> [u8; 64]
+    requires { inputs ≤ 64 }
+    ensures { ProbeCodes inputs codes.now result }
 {
+    let mut singles = [0u8; 64];
     for net in 0..inputs {
         let first = excitation::excitation_of(first_allowed(codes[net]));
         singles[net] = excitation::single(first).code;
     }
+    singles
 }
 
 // Writes a case's probe, a byte for each input.
-pub fn write_probe(codes: &[u8], inputs: usize, pattern: &mut [u8])
-    requires { (inputs ≤ length codes.now) × (inputs ≤ length pattern.old) }
+pub fn write_probe(codes: &[u8; 64], inputs: usize, pattern: &mut [u8])
+    requires { (inputs ≤ 64) × (inputs ≤ length pattern.old) }
     ensures { Rewritten (pattern_byte (probe (sets_in inputs codes.now))) 0 inputs pattern.old pattern.new }
 {
     for net in 0..inputs {
@@ -68,13 +70,12 @@ pub fn write_probe(codes: &[u8], inputs: usize, pattern: &mut [u8])
 
 // The codes of a child's sets: those of its parent, but for the input that is split, whose set has the excitation of byte e alone.
 // Form kept: what may not change: the search calls it with a byte, and goes through the four bytes.
-pub fn child_codes(parent: &[u8], input: Net, e: u8) -> [u8; 64]
-    requires { (length parent.now ≡ 64) × (input.0 < 64) }
+pub fn child_codes(parent: &[u8; 64], input: Net, e: u8) -> [u8; 64]
+    requires { input.0 < 64 }
     ensures { result ≡ child_codes parent.now input.0 e }
 {
     let net = input.0;
-    let mut codes = [0u8; 64];
-    codes.copy_from_slice(parent);
+    let mut codes = *parent;
     codes[net] = excitation::single(excitation::excitation_of(e)).code;
     codes
 }

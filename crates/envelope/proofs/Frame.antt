@@ -14,12 +14,9 @@ use Rattle.evaluation.specs.Evaluation.{InputCodes, envelope_sheet, sheet_for, E
 use Rattle.evaluation.specs.declared.Setting.{Setting}
 use Rattle.envelope.specs.Envelope.{frame_sheet}
 
-module _ (setting : Setting) {given codes : List ℕ} (long : length given ≡ 64) (coded : Rewritten (allowed setting.file.now) 0 setting.inputs given codes) where
+module _ (setting : Setting) {given codes : List ℕ} (coded : Rewritten (allowed setting.file.now) 0 setting.inputs given codes) where
   pub frame_codes : InputCodes setting.inputs codes
-  frame_codes = record {
-    enough = omega (arith, long, coded.long, setting.accepted.few_inputs);
-    low = λ net h. (let high = (setting.accepted.input net h).allowed_high in omega (arith, frame_code setting.accepted coded net h));
-  }
+  frame_codes net h = let high = (setting.accepted.input net h).allowed_high in omega (arith, frame_code setting.accepted coded net h)
 
   pub frame_evaluated : {words : List ℕ} {answer : Currents} → Evaluated setting.table.now (sheet_for setting codes) answer words
       → Evaluated setting.table.now (frame_sheet setting.hops setting.file.now) answer words

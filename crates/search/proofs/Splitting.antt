@@ -5,7 +5,7 @@ use mathlib.Core.Bool.{Bool, true, false}
 use mathlib.Core.List.{List, [], ◌∷◌, ◌++◌, map}
 use mathlib.Core.Path.{◌≡◌, refl, ap, sym, ◌∙◌}
 use native.Mathlib.Omega.{arith}
-use lib.ListN.{length, get_or, set, length-set}
+use lib.ListN.{length, get_or, set, take, drop, length-set}
 use borrow.Table.Steps.{cases}
 use Rattle.laws.specs.Rewritten.{Rewritten}
 use Rattle.excitation.specs.Excitation.{excitation_of}
@@ -58,17 +58,17 @@ splitting_begun running = record {
 }
 
 -- The parent's probe drops less than the threshold, which does not fall while the children are made.
-pub parent_below : {setting : Setting} {parent given : List ℕ} {input k cap n threshold : ℕ} {store pattern : List ℕ}
+pub parent_below : {setting : Setting} {parent : List ℕ} {input k cap n threshold : ℕ} {store pattern : List ℕ}
     {e count next threshold' : ℕ} {store' pattern' : List ℕ} → Running setting.inputs n threshold store pattern → k < n
     → ProbesCovered (pattern_drop setting) (state_in setting.inputs n threshold store pattern)
-    → Rewritten (λ j. get_or store (72 * k + j) 0) 0 64 given parent
+    → parent ≡ take 64 (drop (72 * k) store)
     → Splitting setting parent input k cap n threshold store pattern e count next threshold' store' pattern'
     → probe_drop setting parent < threshold'
 unfolding state_in best_in
-parent_below {setting} {parent} {given} {input} {k} {cap} {n} {threshold} {store} {pattern} {e} running inside covered copied now =
+parent_below {setting} {parent} {input} {k} {cap} {n} {threshold} {store} {pattern} {e} running inside covered copied now =
     let inputs = setting.inputs in
     let simulated = pattern_drop setting in
-    let is : sets_in inputs parent ≡ sets_at (cases_in inputs store n) k = sets_copied inputs setting.accepted.few_inputs store k given parent copied ∙ sym (sets_at_lem inputs store n k inside) in
+    let is : sets_in inputs parent ≡ sets_at (cases_in inputs store n) k = sets_copied inputs setting.accepted.few_inputs store k parent copied ∙ sym (sets_at_lem inputs store n k inside) in
     let drop : probe_drop setting parent ≡ simulated (probe (sets_at (cases_in inputs store n) k)) = ap (λ sets. simulated (probe sets)) is in
     let lower = ap (λ (best : Best). best.lower) now.best.is in
     omega (
@@ -148,14 +148,14 @@ module _ {setting : Setting} {parent : List ℕ} {input k cap n threshold : ℕ}
         (λ t. let q = child.skipped t in rw (q.0, q.1, q.2) (skipped t))
 
 -- A split, once the children of all four excitations are made.
-pub case_split : (order : List ℕ) {setting : Setting} {parent given : List ℕ} {input k cap n threshold : ℕ} {store pattern : List ℕ}
+pub case_split : (order : List ℕ) {setting : Setting} {parent : List ℕ} {input k cap n threshold : ℕ} {store pattern : List ℕ}
     {e count next threshold' : ℕ} {store' pattern' : List ℕ} → Running setting.inputs n threshold store pattern
-    → CaseToSplit setting.inputs n store k cap → Rewritten (λ j. get_or store (72 * k + j) 0) 0 64 given parent
+    → CaseToSplit setting.inputs n store k cap → parent ≡ take 64 (drop (72 * k) store)
     → input ≡ first_undecided order (sets_in setting.inputs parent) → e ≡ 4
     → Splitting setting parent input k cap n threshold store pattern e count next threshold' store' pattern'
     → CaseSplit setting order n threshold store pattern count threshold' store' pattern'
 unfolding split next_children state_in
-case_split order {setting} {parent} {given} {input} {k} {cap} {n} {threshold} {store} {pattern} {e} {count} {next} {threshold'} {store'} {pattern'} running to copied chosen end now =
+case_split order {setting} {parent} {input} {k} {cap} {n} {threshold} {store} {pattern} {e} {count} {next} {threshold'} {store'} {pattern'} running to copied chosen end now =
     let simulated = pattern_drop setting in
     let bound = case_drop setting in
     let xs = cases_in setting.inputs store n in
@@ -163,7 +163,7 @@ case_split order {setting} {parent} {given} {input} {k} {cap} {n} {threshold} {s
     let at = next_split xs in
     let sets = sets_at xs at in
     let split_is : case ≡ sets =
-    sets_copied setting.inputs setting.accepted.few_inputs store k given parent copied ∙ sym (sets_at_lem setting.inputs store n k to.inside) ∙ ap (sets_at xs) to.place in
+    sets_copied setting.inputs setting.accepted.few_inputs store k parent copied ∙ sym (sets_at_lem setting.inputs store n k to.inside) ∙ ap (sets_at xs) to.place in
     let input_is : input ≡ first_undecided order sets = chosen ∙ ap (first_undecided order) split_is in
     let new_is : children_below e input case ≡ children_below 4 (first_undecided order sets) sets =
     ap (λ m. children_below m input case) end ∙ ap (λ i. children_below 4 i case) input_is ∙ ap (children_below 4 (first_undecided order sets)) split_is in

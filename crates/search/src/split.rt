@@ -42,7 +42,7 @@ impl Step {
 // parent's probe, whose drop is known to be below the threshold.
 fn make_child(
     setting: Setting<'_>,
-    parent: &[u8],
+    parent: &[u8; 64],
     input: Net,
     e: u8,
     cap: u64,
@@ -52,7 +52,7 @@ fn make_child(
     work: &mut [u8],
     store: &mut [u8],
 ) -> Step
-    requires { Evaluable setting sheet.old work.old × (length parent.now ≡ 64) × SetCodes setting.inputs parent.now × (input.0 < setting.inputs) × (e < 4) × (length pattern.old ≡ 64) × HasCase store.old step.next.0 × (step.threshold ≤ drop_limit) × (probe_drop setting parent.now < step.threshold) }
+    requires { Evaluable setting sheet.old work.old × SetCodes setting.inputs parent.now × (input.0 < setting.inputs) × (e < 4) × (length pattern.old ≡ 64) × HasCase store.old step.next.0 × (step.threshold ≤ drop_limit) × (probe_drop setting parent.now < step.threshold) }
     ensures { ChildMade setting.entry parent.now input.0 e cap step store.old pattern.old result store.new pattern.new }
 {
     let net = input.0;
@@ -99,8 +99,7 @@ pub fn split(
     requires { Evaluable setting sheet.old work.old × Running setting.inputs n threshold store.old pattern.old × CaseToSplit setting.inputs n store.old k.0 cap × NetsListed setting.inputs order.now × (72 * (n + 3) ≤ length store.old) × (n + 3 ≤ 30001) × ProbesCovered (pattern_drop setting) (state_in setting.inputs n threshold store.old pattern.old) }
     ensures { CaseSplit setting.entry order.now n threshold store.old pattern.old result.cases result.threshold store.new pattern.new }
 {
-    let mut parent = [0u8; 64];
-    store::read_sets(store, k, &mut parent);
+    let parent = store::read_sets(store, k);
     let input = choice::choose(&parent, setting.inputs, order);
     let mut step = Step {
         cases: n,

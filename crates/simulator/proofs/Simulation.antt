@@ -48,11 +48,8 @@ singles_evaluated {words} {answer} setting codes hops enough e pattern are =
 
 -- The codes of a pattern: their sets have its excitations as their one members.
 module _ {inputs : ℕ} {pattern codes : List ℕ} (coded : PatternCodes inputs pattern codes) where
-  pub pattern_codes : inputs ≤ 64 → InputCodes inputs codes
-  pattern_codes few = record {
-    enough = omega (arith, coded.long);
-    low = λ net h. subst (λ x. x < 16) (sym (coded.at net h)) (code_below _);
-  }
+  pub pattern_codes : InputCodes inputs codes
+  pattern_codes net h = subst (λ x. x < 16) (sym (coded.at net h)) (code_below _)
 
   pub pattern_sets : sets_in inputs codes ≡ map single (pattern_of inputs pattern)
   unfolding sets_in pattern_of

@@ -60,7 +60,6 @@ pub record Simulated (given : SimulateArguments) (answer : Result Currents Refus
 
 -- The codes of the sets whose one member is the pattern's excitation.
 pub record PatternCodes (inputs : ℕ) (pattern codes : List ℕ) : Type 0 where
-  pub long : length codes ≡ 64
   pub at : (net : ℕ) → net < inputs → get_or codes net 0 ≡ code (single (excitation_of (get_or pattern net 0)))
 
 -- A simulation of whichever pattern has the codes' sets as its single sets.

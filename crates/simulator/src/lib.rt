@@ -32,20 +32,22 @@ fn check_sizes(
 }
 
 // The codes of a pattern's excitations as sets.
-fn pattern_codes(pattern: &[u8], inputs: usize, codes: &mut [u8])
-    requires { (inputs ≤ 64) × (length pattern.now ≡ 64) × (length codes.old ≡ 64) }
-    ensures { PatternCodes inputs pattern.now codes.new }
+fn pattern_codes(pattern: &[u8], inputs: usize) -> [u8; 64]
+    requires { (inputs ≤ 64) × (length pattern.now ≡ 64) }
+    ensures { PatternCodes inputs pattern.now result }
 {
+    let mut codes = [0u8; 64];
     for net in 0..inputs {
         codes[net] = excitation::single(excitation::excitation_of(pattern[net])).code;
     }
+    codes
 }
 
 // The simulation of a block's pattern, given by the codes of its single sets: its sheet, drop and quiet tick. The setting's hop limit is
 // not looked at.
 pub fn evaluate_singles(
     setting: Setting<'_>,
-    codes: &[u8],
+    codes: &[u8; 64],
     sheet: &mut [Word],
     work: &mut [u8],
 ) -> Currents
@@ -72,8 +74,7 @@ fn evaluate_pattern(
     requires { Evaluable setting sheet.old work.old × (length pattern.now ≡ 64) }
     ensures { Evaluated setting.entry.table.now (pattern_sheet setting.entry.file.now pattern.now) result sheet.new }
 {
-    let mut codes = [0u8; 64];
-    pattern_codes(pattern, setting.inputs, &mut codes);
+    let codes = pattern_codes(pattern, setting.inputs);
     evaluate_singles(setting, &codes, sheet, work)
 }
 

@@ -9,7 +9,6 @@ pub make_case-requires : goal.make_case-requires
 make_case-requires c =
     let file = c.args.setting.accepted in (
       c.requires.0,
-      codes_long file c.frame_codes.ensures,
       frame_coded file c.frame_codes.ensures,
       c.requires.1,
       record { whole = omega (arith, c.requires.2); numbered = omega arith },

@@ -6,7 +6,7 @@ use Rattle.bounds.proofs.evaluate.evaluate_case.Goals as goal
 pub returns-then-decided : goal.returns-then-decided
 returns-then-decided c =
     case_simulated c.args.setting c.is_decided-decided.ensures
-    c.if-decided.true c.requires.2 c.evaluate_singles-simulated.ensures
+    c.if-decided.true c.requires.1 c.evaluate_singles-simulated.ensures
 
 pub returns : goal.returns
 returns c =

@@ -16,17 +16,16 @@ bound_case-requires c =
     let input = c.args.input.0 in
     let codes = c.child_codes-codes.ensures in (
       c.requires.0,
-      ap length codes ∙ length-set parent input _ ∙ c.requires.1,
-      rw codes (child_coded c.args.setting.inputs few parent c.requires.1 input c.requires.3 c.args.e c.requires.2),
-      c.requires.6,
+      rw codes (child_coded c.args.setting.inputs few parent c.told-parent input c.requires.2 c.args.e c.requires.1),
+      c.requires.5,
     )
 
 pub returns-then-known : goal.returns-then-known
 returns-then-known c =
-    let below = child_below c.args.setting c.args.parent.now c.args.input.0 c.args.e c.requires.1
-    c.requires.3 c.child_codes-codes.ensures c.first_allowed.ensures c.requires.8 (eq-eqb _ _ c.if-known.true) in
+    let below = child_below c.args.setting c.args.parent.now c.args.input.0 c.args.e c.told-parent
+    c.requires.2 c.child_codes-codes.ensures c.first_allowed.ensures c.requires.7 (eq-eqb _ _ c.if-known.true) in
     child_made c.excitation_of.ensures c.contains.ensures (ap not c.if-not-contains.false) c.child_codes-codes.ensures
-    (bounded_made c.bound_case.ensures below (omega (arith, c.requires.7))) c.child_made.ensures
+    (bounded_made c.bound_case.ensures below (omega (arith, c.requires.6))) c.child_made.ensures
 
 pub make_case-threshold-requires : goal.make_case-threshold-requires
 make_case-threshold-requires c =
@@ -35,8 +34,7 @@ make_case-threshold-requires c =
     let input = c.args.input.0 in
     let codes = c.child_codes-codes.ensures in (
       c.requires.0,
-      ap length codes ∙ length-set parent input _ ∙ c.requires.1,
-      rw codes (child_coded c.args.setting.inputs few parent c.requires.1 input c.requires.3 c.args.e c.requires.2),
+      rw codes (child_coded c.args.setting.inputs few parent c.told-parent input c.requires.2 c.args.e c.requires.1),
+      c.requires.4,
       c.requires.5,
-      c.requires.6,
     )

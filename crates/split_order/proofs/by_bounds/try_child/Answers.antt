@@ -17,7 +17,6 @@ evaluate_case-own-requires c =
     let coded = c.child_codes-codes.ensures in
     let few = c.args.setting.accepted.few_inputs in (
       c.requires.0,
-      ap length coded ∙ length-set c.args.frame.now _ _ ∙ c.told-frame,
       subst (SetCodes c.args.setting.inputs) (sym coded) (child_coded _ few c.args.frame.now c.told-frame c.args.input.0 c.requires.2 c.args.e c.requires.1),
     )
 
