@@ -109,27 +109,27 @@ module _ {setting : Setting} {parent : List ℕ} {input k cap n threshold : ℕ}
           places = rw same (places_skip k n e count next inside (children_below e input case) now.places);
         }
 
-    made_is : case_of setting.inputs (child_codes parent input e) (min cap (own_upper setting.file.now setting.hops setting.table.now (sets_in setting.inputs (child_codes parent input e))))
+    made_is : case_of setting.inputs (child_codes parent input (excitation_of e)) (min cap (own_upper setting.file.now setting.hops setting.table.now (sets_in setting.inputs (child_codes parent input (excitation_of e)))))
         ≡ made_under (pattern_drop setting) (case_drop setting) cap (set case input (single (excitation_of e)))
     unfolding own_upper made_under
-    made_is = ap (made_under (pattern_drop setting) (case_drop setting) cap) (child_sets setting.inputs setting.accepted.few_inputs parent long input chosen e)
+    made_is = ap (made_under (pattern_drop setting) (case_drop setting) cap) (child_sets setting.inputs setting.accepted.few_inputs parent long input chosen (excitation_of e))
 
     added : {threshold'' : ℕ} {store'' pattern'' : List ℕ} → member (excitation_of e) (decode (get_or parent input 0)) ≡ true
-        → CaseMade setting (child_codes parent input e) cap threshold' next store' pattern' threshold'' store'' pattern''
+        → CaseMade setting (child_codes parent input (excitation_of e)) cap threshold' next store' pattern' threshold'' store'' pattern''
         → Splitting setting parent input k cap n threshold store pattern (e + 1) (max (next + 1) count) (max (next + 1) count) threshold'' store'' pattern''
     added h made =
         let simulated = pattern_drop setting in
         let make = made_under simulated (case_drop setting) cap in
-        let codes = child_codes parent input e in
+        let codes = child_codes parent input (excitation_of e) in
         let child = set case input (single (excitation_of e)) in
         let new = children_below e input case in
-        let sets : sets_in setting.inputs codes ≡ child = child_sets setting.inputs setting.accepted.few_inputs parent long input chosen e in
+        let sets : sets_in setting.inputs codes ≡ child = child_sets setting.inputs setting.accepted.few_inputs parent long input chosen (excitation_of e) in
         let more : children_below (e + 1) input case ≡ new ++ (child ∷ []) = children_more e input case (tested h) in
         let low : min cap (own_upper setting.file.now setting.hops setting.table.now (sets_in setting.inputs codes)) < drop_limit = omega (arith, made.upper_low) in
         record {
           stored = rw more
               (stored_next setting.accepted.few_inputs (length-set parent input (code (single (excitation_of e))) ∙ long)
-              (child_coded setting.inputs setting.accepted.few_inputs parent long input chosen e coded) low next made.stored
+              (child_coded setting.inputs setting.accepted.few_inputs parent long input chosen (excitation_of e) coded) low next made.stored
               make child made_is k n e count inside turn numbered store room (cases_in setting.inputs store n) new now.places now.stored);
           best = rw (more, best_more simulated (best_in setting.inputs threshold pattern) new child)
               (rw sets at
@@ -140,7 +140,7 @@ module _ {setting : Setting} {parent : List ℕ} {input k cap n threshold : ℕ}
         }
 
     pub splitting_next : {after : Step} {store'' pattern'' : List ℕ}
-        → ChildMade setting parent input e cap (record { cases = count; next = record { 0 = next }; threshold = threshold' }) store' pattern' after store'' pattern''
+        → ChildMade setting parent input (excitation_of e) cap (record { cases = count; next = record { 0 = next }; threshold = threshold' }) store' pattern' after store'' pattern''
         → Splitting setting parent input k cap n threshold store pattern (e + 1) after.cases after.next.0 after.threshold store'' pattern''
     splitting_next child =
         cases (member (excitation_of e) (decode (get_or parent input 0)))

@@ -1,8 +1,9 @@
 -- What the functions of the search ask and promise (for document 01, "Search"), step by step: a case made, a case split, the whole run,
 -- the sheet.
 use Rattle.std.specs.Prelude.{ℕ, ◌+◌, ◌*◌, ◌-◌, ◌≤◌, ◌<◌, max, true, false, List, ◌≡◌, length, get_or}
-use Rattle.excitation.specs.Excitation.{excitation_of, pattern_of}
+use Rattle.excitation.specs.Excitation.{pattern_of}
 use Rattle.excitation.specs.UncertaintySet.{member, decode}
+use Rattle.excitation.specs.declared.Excitation.{Excitation}
 use Rattle.block.specs.Block.{frame}
 use Rattle.block.specs.Limits.{drop_limit}
 use Rattle.block.specs.Record.{File}
@@ -51,14 +52,14 @@ pub record FirstMade (setting : Setting) (store pattern : List ℕ) (threshold :
   pub running : Running setting.inputs 1 threshold store' pattern'
   pub past : PastKept setting.inputs 1 store pattern store' pattern'
 
--- A child made, where the parent's set at the input allows the excitation of byte e; else nothing changes. A child is put at the next
+-- A child made, where the parent's set at the input allows the excitation; else nothing changes. A child is put at the next
 -- place: the parent's for the first, past the cases for the others.
-pub record ChildMade (setting : Setting) (parent : List ℕ) (input e cap : ℕ) (step : Step) (store pattern : List ℕ)
+pub record ChildMade (setting : Setting) (parent : List ℕ) (input : ℕ) (e : Excitation) (cap : ℕ) (step : Step) (store pattern : List ℕ)
     (step' : Step) (store' pattern' : List ℕ) : Type 0 where
-  pub skipped : member (excitation_of e) (decode (get_or parent input 0)) ≡ false → (step' ≡ step) × (store' ≡ store) × (pattern' ≡ pattern)
-  pub made : member (excitation_of e) (decode (get_or parent input 0)) ≡ true
+  pub skipped : member e (decode (get_or parent input 0)) ≡ false → (step' ≡ step) × (store' ≡ store) × (pattern' ≡ pattern)
+  pub made : member e (decode (get_or parent input 0)) ≡ true
       → CaseMade setting (child_codes parent input e) cap step.threshold step.next.0 store pattern step'.threshold store' pattern'
-  pub counted : member (excitation_of e) (decode (get_or parent input 0)) ≡ true
+  pub counted : member e (decode (get_or parent input 0)) ≡ true
       → (step'.cases ≡ max (step.next.0 + 1) step.cases) × (step'.next.0 ≡ step'.cases)
 
 -- The case to split: the first whose upper number is U, and U.

@@ -12,7 +12,7 @@ use block::Net;
 use bounds::make;
 use cases::{CaseNumber, choice, sets, store};
 use evaluation::Setting;
-use excitation::Set;
+use excitation::{Excitation, Set};
 use sheet::Word;
 
 // Where a split stands: how many cases there are, the place of the next child, and the drop that makes a probe the best.
@@ -38,13 +38,13 @@ impl Step {
     }
 }
 
-// Makes the child whose input has the excitation of byte e, where the parent's set allows it. The child of the first allowed has its
+// Makes the child whose input has an excitation, where the parent's set allows it. The child of the first allowed has its
 // parent's probe, whose drop is known to be below the threshold.
 fn make_child(
     setting: Setting<'_>,
     parent: &[u8; 64],
     input: Net,
-    e: u8,
+    e: Excitation,
     cap: u64,
     step: Step,
     sheet: &mut [Word],
@@ -52,17 +52,17 @@ fn make_child(
     work: &mut [u8],
     store: &mut [u8],
 ) -> Step
-    requires { Evaluable setting sheet.old work.old × SetCodes setting.inputs parent.now × (input.0 < setting.inputs) × (e < 4) × (length pattern.old ≡ 64) × HasCase store.old step.next.0 × (step.threshold ≤ drop_limit) × (probe_drop setting parent.now < step.threshold) }
+    requires { Evaluable setting sheet.old work.old × SetCodes setting.inputs parent.now × (input.0 < setting.inputs) × (length pattern.old ≡ 64) × HasCase store.old step.next.0 × (step.threshold ≤ drop_limit) × (probe_drop setting parent.now < step.threshold) }
     ensures { ChildMade setting.entry parent.now input.0 e cap step store.old pattern.old result store.new pattern.new }
 {
     let net = input.0;
     let code = parent[net];
     let set = Set { code };
-    if !set.contains(excitation::excitation_of(e)) {
+    if !set.contains(e) {
         return step;
     }
     let codes = sets::child_codes(parent, input, e);
-    let known = e == sets::first_allowed(code);
+    let known = sets::is_first_allowed(code, e);
     if known {
         make::bound_case(
             setting, &codes, cap, step.next, sheet, work, store,
@@ -106,7 +106,7 @@ pub fn split(
         next: k,
         threshold,
     };
-    for e in 0..4 {
+    for e in sets::EXCITATIONS {
         step = make_child(
             setting, &parent, input, e, cap, step, sheet, pattern, work, store,
         );

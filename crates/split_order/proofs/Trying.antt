@@ -68,7 +68,7 @@ module _ (setting : Setting) (codes : List ℕ) (input : ℕ) where
     }
 
     pub tried_more : length codes ≡ 64 → e < 4 → not allowed ≡ false → {child sheet : List ℕ} {cap own number : ℕ} {after : Four}
-        → child ≡ child_codes codes input e → cap ≡ upper_of setting codes → CaseEvaluated setting child own sheet
+        → child ≡ child_codes codes input x → cap ≡ upper_of setting codes → CaseEvaluated setting child own sheet
         → number ≡ min cap own → four_of after ≡ take 4 (put_falling number (four_of tried))
         → TriedBelow setting codes input (e + 1) after
     unfolding child_upper made_under own_upper put_falling
@@ -76,7 +76,8 @@ module _ (setting : Setting) (codes : List ℕ) (input : ℕ) where
         let new = children_below e input frame in
         let more = children_more e input frame (confirmed allowed_is h) in
         let sets : sets_in setting.inputs child ≡ set frame input (single (excitation_of e)) =
-        ap (sets_in setting.inputs) coded ∙ child_sets setting.inputs setting.accepted.few_inputs codes long input inside e in
+        ap (sets_in setting.inputs) coded ∙ child_sets setting.inputs setting.accepted.few_inputs codes long input inside x
+        ∙ ap (λ y. set frame input (single y)) is in
         let number_is : number ≡ upper (set frame input (single (excitation_of e))) =
         least ∙ ap (λ n. min n own) capped
         ∙ ap (min (own_upper setting.file.now setting.hops setting.table.now frame)) (evaluated.is ∙ ap (own_upper setting.file.now setting.hops setting.table.now) sets) in

@@ -1,5 +1,6 @@
 // The list by bounds: each undecided input of the whole frame is tried, and goes by the upper numbers of its children.
 ghost use Rattle.std.specs.Prelude.{true, false, [], ◌∷◌, ◌≡◌, ◌+◌, ◌≤◌, ◌<◌, length, take, count_by};
+ghost use Rattle.excitation.specs.Excitation.{byte_of};
 ghost use Rattle.excitation.specs.UncertaintySet.{decode};
 ghost use Rattle.block.specs.Verdict.{verdict};
 ghost use Rattle.operation.specs.SplitOrder.{list_bytes};
@@ -17,7 +18,7 @@ use block::{Counts, Net, Refusal};
 use bounds::evaluate;
 use cases::sets;
 use evaluation::Setting;
-use excitation::Set;
+use excitation::{Excitation, Set};
 use operation::{SplitOrder, arguments};
 use sheet::Word;
 
@@ -58,24 +59,24 @@ fn untried_keys(codes: &[u8; 64], inputs: usize) -> [Four; 64]
     keys
 }
 
-// Tries the child whose input has the excitation of byte e, where the frame's set allows it: puts its upper number among those of the
+// Tries the child whose input has an excitation, where the frame's set allows it: puts its upper number among those of the
 // children before it.
 fn try_child(
     setting: Setting<'_>,
     frame: &[u8; 64],
     input: Net,
-    e: u8,
+    e: Excitation,
     cap: u64,
     tried: Four,
     sheet: &mut [Word],
     work: &mut [u8],
 ) -> Four
-    requires { Evaluable setting sheet.old work.old × SetCodes setting.inputs frame.now × (input.0 < setting.inputs) × (e < 4) × (cap ≡ upper_of setting frame.now) × TriedBelow setting frame.now input.0 e tried }
-    ensures { TriedBelow setting.entry frame.now input.0 (e + 1) result }
+    requires { Evaluable setting sheet.old work.old × SetCodes setting.inputs frame.now × (input.0 < setting.inputs) × (cap ≡ upper_of setting frame.now) × TriedBelow setting frame.now input.0 (byte_of e) tried }
+    ensures { TriedBelow setting.entry frame.now input.0 (byte_of e + 1) result }
 {
     let net = input.0;
     let set = Set { code: frame[net] };
-    if !set.contains(excitation::excitation_of(e)) {
+    if !set.contains(e) {
         return tried;
     }
     let codes = sets::child_codes(frame, input, e);
@@ -100,7 +101,7 @@ fn try_input(
         return Four::alone(DECIDED);
     }
     let mut tried = Four::alone(0);
-    for e in 0..4 {
+    for e in sets::EXCITATIONS {
         tried = try_child(
             setting, frame, input, e, cap, tried, sheet, work,
         );

@@ -11,8 +11,7 @@ use Rattle.cases.proofs.sets.probe_codes.Goals as goal
 pub loop-net-preserved : goal.loop-net-preserved
 loop-net-preserved c =
     let loop = c.loop-net in
-    let first = c.excitation_of-first.ensures ∙ ap excitation_of c.first_allowed.ensures ∙ byte_back _ in
-    rewritten_next _ _ loop.net _ _ _ _ (omega arith) (omega arith) (c.single.ensures ∙ ap (λ e. code (single e)) first) loop.invariant
+    rewritten_next _ _ loop.net _ _ _ _ (omega arith) (omega arith) (c.single.ensures ∙ ap (λ e. code (single e)) c.first_allowed.ensures) loop.invariant
 
 pub returns : goal.returns
 returns c = record { at = rewritten_first _ _ _ _ (rewritten_to _ _ _ c.args.inputs _ _ (omega arith) c.loop-net.invariant) }

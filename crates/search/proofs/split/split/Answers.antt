@@ -1,9 +1,10 @@
--- `search::split::split` meets its contract. The loop's invariant: the children of the excitations below e are made.
+-- `search::split::split` meets its contract. The loop's invariant: the children of the excitations passed are made.
 -- Assumes nothing.
 use Prim.Native.Nat.{ℕ}
 use mathlib.Core.Path.{refl, ◌∙◌}
 use native.Mathlib.Omega.{arith}
 use lib.ListN.{length-replicate}
+use Rattle.cases.proofs.Children.{in_order_is}
 use Rattle.cases.proofs.Records.{codes_copied, copied_long, has_case}
 use Rattle.evaluation.proofs.Given.{evaluable_kept}
 use Rattle.search.proofs.Splitting.{child_room, parent_below, splitting_begun, splitting_next, case_split}
@@ -23,7 +24,6 @@ make_child-step-requires c =
       codes_copied c.args.setting.inputs c.args.setting.accepted.few_inputs c.args.store.now c.args.k.0 _ copied
           (c.requires.1.cases.codes c.args.k.0 c.requires.2.inside),
       c.choose-input.ensures.1,
-      below,
       at.invariant.2.best.long ∙ c.requires.1.pattern_long,
       room,
       at.invariant.2.best.threshold_high,
@@ -41,7 +41,7 @@ loop-e-preserved c =
           (copied_long (has_case c.requires.1.cases c.requires.2.inside) copied)
           (codes_copied c.args.setting.inputs c.args.setting.accepted.few_inputs c.args.store.now c.args.k.0 _ copied
           (c.requires.1.cases.codes c.args.k.0 c.requires.2.inside))
-          c.choose-input.ensures.1 made.ensures,
+          c.choose-input.ensures.1 (rw (in_order_is at.e-index) at made.ensures),
     )
 
 pub returns : goal.returns

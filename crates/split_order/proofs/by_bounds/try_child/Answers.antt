@@ -3,6 +3,9 @@
 use mathlib.Core.Bool.{not}
 use mathlib.Core.Path.{ap, ◌∙◌, subst, sym}
 use lib.ListN.{length, length-set}
+use native.Mathlib.Omega.{arith}
+use Rattle.excitation.specs.Excitation.{byte_of}
+use Rattle.excitation.proofs.Bytes.{byte_low, byte_back}
 use Rattle.cases.proofs.Children.{child_coded}
 use Rattle.cases.specs.Records.{SetCodes}
 use Rattle.split_order.proofs.Trying.{tried_skipped, tried_more}
@@ -10,7 +13,7 @@ use Rattle.split_order.proofs.by_bounds.try_child.Goals as goal
 
 pub returns-then-not-contains : goal.returns-then-not-contains
 returns-then-not-contains c =
-    tried_skipped c.args.setting _ c.args.input.0 c.requires.2 c.args.e c.excitation_of.ensures c.contains.ensures c.requires.5 (ap not c.if-not-contains.true)
+    tried_skipped c.args.setting _ c.args.input.0 c.requires.2 (byte_of c.args.e) (sym (byte_back c.args.e)) c.contains.ensures c.requires.4 (ap not c.if-not-contains.true)
 
 pub evaluate_case-own-requires : goal.evaluate_case-own-requires
 evaluate_case-own-requires c =
@@ -22,6 +25,7 @@ evaluate_case-own-requires c =
 
 pub returns : goal.returns
 returns c =
-    tried_more c.args.setting _ c.args.input.0 c.requires.2 c.args.e c.excitation_of.ensures c.contains.ensures
-    c.requires.5 c.told-frame c.requires.3 (ap not c.if-not-contains.false) c.child_codes-codes.ensures c.requires.4
+    let e = c.args.e in
+    tried_more c.args.setting _ c.args.input.0 c.requires.2 (byte_of e) (sym (byte_back e)) c.contains.ensures
+    c.requires.4 c.told-frame (let low = byte_low e in omega arith) (ap not c.if-not-contains.false) c.child_codes-codes.ensures c.requires.3
     c.evaluate_case-own.ensures c.min.ensures c.put.ensures
