@@ -5,7 +5,6 @@ use mathlib.Core.Bool.{Bool, true, false}
 use mathlib.Core.List.{List}
 use mathlib.Core.Path.{◌≡◌, ap, sym, ◌∙◌}
 use Rattle.excitation.specs.UncertaintySet.{sets_in}
-use Rattle.block.specs.Record.{File}
 use Rattle.operation.specs.declared.Currents.{Currents}
 use Rattle.sheet.specs.Sheet.{sheet_words}
 use Rattle.evaluation.specs.Evaluation.{simulated_sheet, envelope_sheet, sheet_for, Evaluated}

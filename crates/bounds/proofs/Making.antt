@@ -1,17 +1,12 @@
 -- Laws of a case made: its probe simulated, and its upper number.
 -- Assumes nothing.
-use Prim.Native.Nat.{ℕ, ◌≤◌, ◌<◌}
+use Prim.Native.Nat.{ℕ, ◌<◌}
 use mathlib.Core.Bool.{Bool, true, false}
 use mathlib.Core.List.{List}
 use mathlib.Core.Path.{◌≡◌, ap, sym, subst, ◌∙◌}
-use native.Mathlib.Omega.{arith}
-use lib.ListN.{length, get_or}
-use Rattle.laws.specs.Rewritten.{Rewritten}
-use Rattle.laws.proofs.Rewritten.{rewritten_first}
-use Rattle.excitation.specs.UncertaintySet.{code, decode, single, sets_in}
+use Rattle.excitation.specs.UncertaintySet.{sets_in}
 use Rattle.excitation.proofs.Codes.{code_below}
 use Rattle.block.specs.Limits.{drop_limit}
-use Rattle.block.specs.Record.{File}
 use Rattle.operation.specs.declared.Currents.{Currents}
 use Rattle.evaluation.specs.Evaluation.{InputCodes, sheet_for, Evaluated}
 use Rattle.evaluation.specs.declared.Setting.{Setting}

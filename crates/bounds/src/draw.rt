@@ -22,13 +22,7 @@ fn raise(sheet: &mut [Word], other: &[Word])
 }
 
 // Draws the sheet of case k: its simulation where it is decided, else its envelope.
-fn draw_case(
-    setting: Setting<'_>,
-    store: &[u8],
-    k: CaseNumber,
-    sheet: &mut [Word],
-    work: &mut [u8],
-)
+fn draw_case(setting: Setting<'_>, store: &[u8], k: CaseNumber, sheet: &mut [Word], work: &mut [u8])
     requires { Evaluable setting sheet.old work.old × HasCase store.now k.0 × SetCodes setting.inputs (drop (72 * k.0) store.now) }
     ensures { sheet.new ≡ sheet_words (case_sheet setting.entry (drop (72 * k.0) store.now)) }
 {
@@ -37,13 +31,7 @@ fn draw_case(
 }
 
 // Draws the sheet over the first n cases.
-pub fn draw_cases(
-    setting: Setting<'_>,
-    store: &[u8],
-    n: usize,
-    sheet: &mut [Word],
-    work: &mut [u8],
-)
+pub fn draw_cases(setting: Setting<'_>, store: &[u8], n: usize, sheet: &mut [Word], work: &mut [u8])
     requires { Evaluable setting sheet.old work.old × HasCases setting.inputs store.now n }
     ensures { sheet.new ≡ sheet_words (sheet_over setting.entry.file.now setting.entry.hops (cases_in setting.entry.inputs store.now n)) }
 {

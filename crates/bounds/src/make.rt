@@ -1,6 +1,6 @@
 // A case made: its probe simulated, its upper number found, and its record written.
-// Form kept: sheet and work stay two buffers, since `evaluation::evaluate` and `simulator::evaluate_singles`, whose clauses may not change,
-// take them so.
+// Form kept: the C interface lends sheet and work buffer one by one, and a struct of the two is no plainer: `draw_cases` and `tried_keys`
+// would build another one for the sheet of their own, and every contract would still name both buffers.
 ghost use Rattle.std.specs.Prelude.{◌≡◌, ◌<◌, length};
 ghost use Rattle.block.specs.Limits.{drop_limit};
 ghost use Rattle.cases.specs.Records.{HasCase, SetCodes};
@@ -13,12 +13,7 @@ use evaluation::Setting;
 use sheet::Word;
 
 // The drop of a case's probe.
-fn probe_drop(
-    setting: Setting<'_>,
-    codes: &[u8; 64],
-    sheet: &mut [Word],
-    work: &mut [u8],
-) -> u64
+fn probe_drop(setting: Setting<'_>, codes: &[u8; 64], sheet: &mut [Word], work: &mut [u8]) -> u64
     requires { Evaluable setting sheet.old work.old }
     ensures { (result ≡ probe_drop setting.entry codes.now) × (result < drop_limit) }
 {

@@ -13,7 +13,7 @@ use Rattle.laws.specs.Rewritten.{Rewritten}
 use Rattle.laws.specs.Turn.{list_below}
 use Rattle.laws.proofs.Below.{max_same, argmax_is, argmax_same}
 use Rattle.laws.proofs.Numbers.{of_each, outside_record}
-use Rattle.laws.proofs.Rewritten.{rewritten_first, rewritten_append}
+use Rattle.laws.proofs.Rewritten.{rewritten_append}
 use Rattle.laws.proofs.Turn.{list_at, list_long, list_next, list_is, list_same}
 use Rattle.numbers.proofs.WordBytes.{word_same, word_held}
 use Rattle.excitation.specs.UncertaintySet.{sets_in}

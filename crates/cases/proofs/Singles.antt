@@ -7,12 +7,10 @@ use mathlib.Core.Path.{◌≡◌, ap, sym, ◌∙◌}
 use native.Mathlib.Omega.{arith}
 use lib.ListN.{get_or}
 use borrow.Author.Tests.{not-true}
-use Rattle.laws.specs.Rewritten.{Rewritten}
 use Rattle.laws.specs.Turn.{list_below}
 use Rattle.laws.proofs.Below.{all_at}
-use Rattle.laws.proofs.Rewritten.{rewritten_first}
 use Rattle.laws.proofs.Turn.{list_map, list_same}
-use Rattle.excitation.specs.UncertaintySet.{code, decode, empty, single, sets_in}
+use Rattle.excitation.specs.UncertaintySet.{decode, empty, single, sets_in}
 use Rattle.excitation.proofs.Codes.{decode_code, some_member}
 use Rattle.cases.specs.Case.{decided, first_allowed, probe}
 use Rattle.cases.specs.Records.{SetCodes, ProbeCodes}

@@ -11,7 +11,12 @@ use block::Net;
 use excitation::{Excitation, Set};
 
 // Document 01's excitations in the order of their bytes, in which the children of a case are made.
-pub const EXCITATIONS: [Excitation; 4] = [excitation::L, excitation::H, excitation::HL, excitation::LH];
+pub const EXCITATIONS: [Excitation; 4] = [
+    excitation::L,
+    excitation::H,
+    excitation::HL,
+    excitation::LH,
+];
 
 // Whether a set has more than one member.
 #[tactic(auto, using(crate::proofs::Codes::undecided_code))]

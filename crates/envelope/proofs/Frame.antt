@@ -2,12 +2,10 @@
 -- Assumes nothing.
 use Prim.Native.Nat.{ℕ}
 use mathlib.Core.List.{List}
-use mathlib.Core.Path.{◌≡◌, subst}
+use mathlib.Core.Path.{subst}
 use native.Mathlib.Omega.{arith}
-use lib.ListN.{length}
 use Rattle.laws.specs.Rewritten.{Rewritten}
-use Rattle.block.specs.Accepted.{AcceptedFile}
-use Rattle.block.specs.Record.{File, allowed}
+use Rattle.block.specs.Record.{allowed}
 use Rattle.block.proofs.Frames.{frame_code, frame_sets}
 use Rattle.operation.specs.declared.Currents.{Currents}
 use Rattle.evaluation.specs.Evaluation.{InputCodes, envelope_sheet, sheet_for, Evaluated}

@@ -24,10 +24,9 @@ use Rattle.block.specs.declared.Gate.{Gate}
 use Rattle.block.proofs.Accepted.{arrival_at}
 use Rattle.sheet.specs.Changes.{restored_in, Restored}
 use Rattle.sheet.specs.Quiet.{Empty}
-use Rattle.sheet.specs.Sheet.{Sheet, sheet_words, sheet_in, drop_of, quiet_tick}
+use Rattle.sheet.specs.Sheet.{Sheet, sheet_words, sheet_in, quiet_tick}
 use Rattle.sheet.specs.Sums.{Droppable}
 use Rattle.sheet.proofs.Changes.{no_change}
-use Rattle.sheet.proofs.Totals.{drop_below}
 use Rattle.sheet.proofs.QuietTick.{quiet_last}
 use Rattle.sheet.proofs.Sheets.{sheet_is, drop_of_words, quiet_of_words}
 use Rattle.waveform.specs.Waveform.{envelope}

@@ -9,8 +9,7 @@ use mathlib.Core.Path.{◌≡◌, refl, ap, ◌∙◌}
 use native.Mathlib.Omega.{arith}
 use lib.ListN.{length}
 use Rattle.excitation.specs.Excitation.{pattern_of}
-use Rattle.block.specs.Accepted.{AcceptedFile}
-use Rattle.block.specs.Block.{frame, input_count}
+use Rattle.block.specs.Block.{input_count}
 use Rattle.block.specs.Record.{net_count}
 use Rattle.block.specs.Refusals.{read_checks, read_of}
 use Rattle.block.specs.Verdict.{Check, verdict}
@@ -46,7 +45,7 @@ module _ (setting : Setting) (ratio budget : ℕ) (order sheet_lent pattern_lent
     end_is =
         ran.is
         ∙ ap (search_from (pattern_drop setting) (case_drop setting) (first_undecided given.order) given.ratio given.budget 0) first.state
-  
+
     cases_held : cases_in setting.inputs store'' ended.cases ≡ ran.end.state.cases
     unfolding state_in
     cases_held = ap (λ s. s.cases) ran.state

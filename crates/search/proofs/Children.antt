@@ -5,16 +5,13 @@ use mathlib.Core.Bool.{Bool, true, false, not, false≢true}
 use mathlib.Core.List.{List}
 use mathlib.Core.Path.{◌≡◌, refl, ap, sym, subst, ◌∙◌}
 use native.Mathlib.Omega.{arith}
-use lib.Dec.{eqb}
 use lib.ListN.{length, get_or}
-use borrow.Author.Tests.{eqb-true}
 use Rattle.laws.proofs.Tests.{confirmed}
 use Rattle.excitation.specs.Excitation.{same}
 use Rattle.excitation.proofs.Sets.{same_gives}
 use Rattle.excitation.specs.UncertaintySet.{member, decode, sets_in}
 use Rattle.excitation.specs.declared.Excitation.{Excitation}
 use Rattle.block.specs.Limits.{drop_limit}
-use Rattle.block.specs.Record.{File}
 use Rattle.cases.specs.Case.{first_allowed, probe}
 use Rattle.cases.specs.Records.{child_codes}
 use Rattle.cases.proofs.Children.{child_probe}

@@ -11,10 +11,9 @@ use Rattle.laws.specs.Rewritten.{Rewritten}
 use Rattle.laws.specs.Turn.{in_turn, list_below}
 use Rattle.excitation.specs.UncertaintySet.{sets_in}
 use Rattle.excitation.specs.declared.Excitation.{Excitation}
-use Rattle.block.specs.Accepted.{AcceptedFile}
 use Rattle.block.specs.Block.{frame}
 use Rattle.block.specs.Limits.{drop_limit}
-use Rattle.block.specs.Record.{File, allowed}
+use Rattle.block.specs.Record.{allowed}
 use Rattle.block.proofs.Frames.{frame_sets}
 use Rattle.cases.specs.Case.{Case, probe, evaluation_of}
 use Rattle.cases.specs.Records.{cases_in, HasCases}

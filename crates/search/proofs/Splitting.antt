@@ -7,13 +7,10 @@ use mathlib.Core.Path.{◌≡◌, refl, ap, sym, ◌∙◌}
 use native.Mathlib.Omega.{arith}
 use lib.ListN.{length, get_or, set, take, drop, length-set}
 use borrow.Table.Steps.{cases}
-use Rattle.laws.specs.Rewritten.{Rewritten}
 use Rattle.excitation.specs.Excitation.{excitation_of}
 use Rattle.excitation.specs.UncertaintySet.{member, empty, code, decode, single, sets_in}
 use Rattle.excitation.proofs.Codes.{set_at}
-use Rattle.block.specs.Accepted.{AcceptedFile}
 use Rattle.block.specs.Limits.{drop_limit}
-use Rattle.block.specs.Record.{File}
 use Rattle.cases.specs.Case.{Case, probe, members_below, children_below}
 use Rattle.cases.specs.Choice.{first_undecided}
 use Rattle.cases.specs.Probes.{ProbesCovered}

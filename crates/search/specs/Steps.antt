@@ -6,7 +6,6 @@ use Rattle.excitation.specs.UncertaintySet.{member, decode}
 use Rattle.excitation.specs.declared.Excitation.{Excitation}
 use Rattle.block.specs.Block.{frame}
 use Rattle.block.specs.Limits.{drop_limit}
-use Rattle.block.specs.Record.{File}
 use Rattle.sheet.specs.Sheet.{sheet_words}
 use Rattle.cases.specs.Choice.{first_undecided}
 use Rattle.cases.specs.Records.{cases_in, HasCases, child_codes}

@@ -49,8 +49,8 @@ fn make_first(
 }
 
 // Searches an accepted file, with arguments that passed.
-// Form kept: the C interface lends sheet, pattern, work buffer and store one by one, and `evaluation::evaluate`, whose clause may not
-// change, takes sheet and work so.
+// Form kept: the C interface lends sheet, pattern, work buffer and store one by one, and each function below takes those alone that it
+// writes, so that its contract says of the others that they stay.
 fn search_block(
     setting: Setting<'_>,
     limits: Limits,
@@ -60,7 +60,7 @@ fn search_block(
     work: &mut [u8],
     store: &mut [u8],
 ) -> Found
-    requires { Evaluable setting sheet.old work.old × (length pattern.old ≡ 64) × NetsListed setting.inputs order.now × (limits.ratio ≤ 10000) × (limits.budget ≤ 10000) × (72 * (1 + 3 * limits.budget) ≤ length store.old) }
+    requires { Evaluable setting sheet.old work.old × (length pattern.old ≡ 64) × NetsListed setting.inputs order.now × (72 * (1 + 3 * limits.budget) ≤ length store.old) }
     ensures { BlockSearched (arguments_of setting.entry limits.ratio limits.budget order.now sheet.old pattern.old work.old store.old) result sheet.new pattern.new store.new }
 {
     let threshold = make_first(setting, sheet, pattern, work, store);
@@ -117,7 +117,5 @@ pub fn search(
         hops: hops as usize,
     };
     let limits = Limits { ratio, budget };
-    Ok(search_block(
-        setting, limits, order, sheet, pattern, work, store,
-    ))
+    Ok(search_block(setting, limits, order, sheet, pattern, work, store))
 }

@@ -64,9 +64,7 @@ fn make_child(
     let codes = sets::child_codes(parent, input, e);
     let known = sets::is_first_allowed(code, e);
     if known {
-        make::bound_case(
-            setting, &codes, cap, step.next, sheet, work, store,
-        );
+        make::bound_case(setting, &codes, cap, step.next, sheet, work, store);
         return step.child_made(step.threshold);
     }
     let threshold = make::make_case(

@@ -3,7 +3,6 @@
 use Prim.Native.Nat.{ℕ, suc, ◌≤◌, ◌<◌}
 use mathlib.Core.List.{List, [], ◌∷◌, map}
 use mathlib.Core.Path.{◌≡◌, refl, ap, sym, subst, ◌∙◌}
-use native.Mathlib.Omega.{arith}
 use lib.ListN.{get_or}
 use Rattle.laws.proofs.Turn.{list_map, list_same}
 use Rattle.excitation.specs.Excitation.{same, hl, lh, excitation_of, pattern_of}
@@ -11,7 +10,6 @@ use Rattle.excitation.specs.UncertaintySet.{member, decode, empty, single, sets_
 use Rattle.excitation.specs.declared.Excitation.{Excitation}
 use Rattle.excitation.proofs.Codes.{code_below, decode_code}
 use Rattle.excitation.proofs.OneMember.{member_single}
-use Rattle.block.specs.Accepted.{AcceptedFile}
 use Rattle.block.specs.Record.{File, net_count}
 use Rattle.waveform.specs.Waveform.{Waveform, simulation, envelope, waveforms}
 use Rattle.waveform.proofs.Singles.{singles, waveforms_single}

@@ -18,8 +18,6 @@ use Rattle.excitation.specs.UncertaintySet.{member, empty, decode, single, sets_
 use Rattle.excitation.specs.declared.Excitation.{Excitation}
 use Rattle.excitation.proofs.Codes.{set_at}
 use Rattle.block.specs.Limits.{drop_limit}
-use Rattle.block.specs.Record.{File}
-use Rattle.evaluation.specs.Evaluation.{Evaluable}
 use Rattle.evaluation.specs.declared.Setting.{Setting}
 use Rattle.cases.specs.Case.{Case, undecided, children_below, members_below}
 use Rattle.cases.specs.Records.{child_codes}

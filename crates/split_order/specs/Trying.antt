@@ -1,5 +1,5 @@
 -- What the functions of the second maker promise, step by step (for request 6): the numbers of an input that is tried, or is not.
-use Rattle.std.specs.Prelude.{ℕ, ◌≤◌, ◌<◌, Bool, true, false, List, [], ◌∷◌, map, ◌≡◌, get_or}
+use Rattle.std.specs.Prelude.{ℕ, ◌<◌, Bool, true, false, List, [], ◌∷◌, map, ◌≡◌, get_or}
 use Rattle.excitation.specs.UncertaintySet.{decode, sets_in}
 use Rattle.block.specs.Limits.{drop_limit}
 use Rattle.evaluation.specs.declared.Setting.{Setting}

@@ -102,19 +102,13 @@ fn try_input(
     }
     let mut tried = Four::alone(0);
     for e in sets::EXCITATIONS {
-        tried = try_child(
-            setting, frame, input, e, cap, tried, sheet, work,
-        );
+        tried = try_child(setting, frame, input, e, cap, tried, sheet, work);
     }
     tried
 }
 
 // Tries every undecided input: the numbers of all. The sheet is scratch, and the call's own.
-fn tried_keys(
-    setting: Setting<'_>,
-    frame: &[u8; 64],
-    work: &mut [u8],
-) -> [Four; 64]
+fn tried_keys(setting: Setting<'_>, frame: &[u8; 64], work: &mut [u8]) -> [Four; 64]
     requires { HasRows work.old setting.nets × SetCodes setting.inputs frame.now }
     ensures { KeysMade (TriedKey setting.entry frame.now) setting.entry.inputs result }
 {
@@ -128,11 +122,7 @@ fn tried_keys(
 }
 
 // The numbers of the inputs. Of fewer than two undecided inputs none has to be tried.
-fn bound_keys(
-    setting: Setting<'_>,
-    frame: &[u8; 64],
-    work: &mut [u8],
-) -> [Four; 64]
+fn bound_keys(setting: Setting<'_>, frame: &[u8; 64], work: &mut [u8]) -> [Four; 64]
     requires { HasRows work.old setting.nets × SetCodes setting.inputs frame.now }
     ensures { SortsBy (tighter_in setting.entry frame.now) setting.entry.inputs result }
 {

@@ -1,7 +1,5 @@
 -- `envelope::evaluate_frame` meets its contract.
 -- Assumes nothing.
-use Prim.Native.Nat.{ℕ}
-use lib.ListN.{length-replicate}
 use Rattle.envelope.proofs.Frame.{frame_codes, frame_evaluated}
 use Rattle.envelope.proofs.evaluate_frame.Goals as goal
 

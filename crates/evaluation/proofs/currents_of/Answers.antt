@@ -1,6 +1,5 @@
 -- `evaluation::currents_of` meets its contract.
 -- Assumes nothing.
-use mathlib.Core.Path.{◌≡◌}
 use native.Mathlib.Omega.{arith}
 use Rattle.sheet.specs.Sheet.{sheet_in}
 use Rattle.sheet.proofs.Totals.{drop_below}

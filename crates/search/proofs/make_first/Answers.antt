@@ -1,7 +1,7 @@
 -- `search::make_first` meets its contract.
 -- Assumes nothing.
 use native.Mathlib.Omega.{arith}
-use Rattle.cases.proofs.Frames.{codes_long, frame_coded}
+use Rattle.cases.proofs.Frames.{frame_coded}
 use Rattle.search.proofs.First.{first_made}
 use Rattle.search.proofs.make_first.Goals as goal
 

@@ -22,6 +22,11 @@ invariant_of-setting c = record {
   some_hops = (arguments_right _ _ _ _ _ _ _ _ _ _ _ (sym c.check_arguments.ensures ∙ c.in_ok-check_arguments.was)).some_hops;
 }
 
+pub invariant_of-limits : goal.invariant_of-limits
+invariant_of-limits c =
+    let right = arguments_right _ _ _ _ _ _ _ _ _ _ _ (sym c.check_arguments.ensures ∙ c.in_ok-check_arguments.was) in
+    record { ratio_high = right.ratio_high; budget_high = right.budget_high }
+
 pub search_block-requires : goal.search_block-requires
 search_block-requires c =
     let file = file_accepted c.read.ensures c.in_ok-nets.was in
@@ -32,8 +37,6 @@ search_block-requires c =
       },
       right.pattern_long,
       nets_listed _ _ right.order_right,
-      right.ratio_high,
-      right.budget_high,
       right.store_long,
     )
 

@@ -3,9 +3,7 @@
 use mathlib.Core.Path.{ap, ◌∙◌}
 use native.Mathlib.Omega.{arith}
 use Rattle.laws.proofs.Rewritten.{rewritten_next, rewritten_to, rewritten_first}
-use Rattle.excitation.specs.Excitation.{excitation_of}
 use Rattle.excitation.specs.UncertaintySet.{code, single}
-use Rattle.excitation.proofs.Bytes.{byte_back}
 use Rattle.cases.proofs.sets.probe_codes.Goals as goal
 
 pub loop-net-preserved : goal.loop-net-preserved

@@ -1,9 +1,8 @@
 -- `search::split::make_child` meets its contract.
 -- Assumes nothing.
 use mathlib.Core.Bool.{not}
-use mathlib.Core.Path.{ap, ◌∙◌}
+use mathlib.Core.Path.{ap}
 use native.Mathlib.Omega.{arith}
-use lib.ListN.{length, length-set}
 use Rattle.cases.proofs.Children.{child_coded}
 use Rattle.search.proofs.Children.{child_below, bounded_made, child_made}
 use Rattle.search.proofs.split.make_child.Goals as goal

@@ -1,9 +1,7 @@
 -- `search::split::split` meets its contract. The loop's invariant: the children of the excitations passed are made.
 -- Assumes nothing.
-use Prim.Native.Nat.{ℕ}
 use mathlib.Core.Path.{refl, ◌∙◌}
 use native.Mathlib.Omega.{arith}
-use lib.ListN.{length-replicate}
 use Rattle.cases.proofs.Children.{in_order_is}
 use Rattle.cases.proofs.Records.{codes_copied, copied_long, has_case}
 use Rattle.evaluation.proofs.Given.{evaluable_kept}

@@ -1,8 +1,7 @@
 -- `split_order::by_bounds::try_child` meets its contract.
 -- Assumes nothing.
 use mathlib.Core.Bool.{not}
-use mathlib.Core.Path.{ap, ◌∙◌, subst, sym}
-use lib.ListN.{length, length-set}
+use mathlib.Core.Path.{ap, subst, sym}
 use native.Mathlib.Omega.{arith}
 use Rattle.excitation.specs.Excitation.{byte_of}
 use Rattle.excitation.proofs.Bytes.{byte_low, byte_back}
