@@ -5,7 +5,6 @@ use mathlib.Core.Bool.{Bool, true, false}
 use mathlib.Core.List.{List}
 use mathlib.Core.Path.{◌≡◌, ap, sym, ◌∙◌}
 use Rattle.excitation.specs.UncertaintySet.{sets_in}
-use Rattle.block.specs.Record.{File}
 use Rattle.operation.specs.declared.Currents.{Currents}
 use Rattle.sheet.specs.Sheet.{sheet_words}
 use Rattle.evaluation.specs.Evaluation.{simulated_sheet, envelope_sheet, sheet_for, Evaluated}
@@ -15,30 +14,30 @@ use Rattle.cases.specs.Case.{decided}
 use Rattle.cases.specs.Records.{SetCodes}
 use Rattle.cases.proofs.Cases.{evaluation_decided, evaluation_undecided}
 use Rattle.cases.proofs.Singles.{decided_sets}
-use Rattle.bounds.specs.Bounds.{simulated_drop, envelope_drop, own_upper, CaseEvaluated}
+use Rattle.bounds.specs.Bounds.{pattern_drop, case_drop, own_upper, CaseEvaluated}
 
-module _ (file : File) (setting : Setting) {table codes : List ℕ} {r : Bool} (test : r ≡ decided (sets_in setting.inputs codes)) where
+module _ (setting : Setting) {codes : List ℕ} {r : Bool} (test : r ≡ decided (sets_in setting.inputs codes)) where
   pub case_simulated : {sheet : List ℕ} {currents : Currents} → r ≡ true → SetCodes setting.inputs codes
-      → SinglesEvaluated file setting codes table currents sheet → CaseEvaluated file setting table codes currents.drop sheet
+      → SinglesEvaluated setting codes currents sheet → CaseEvaluated setting codes currents.drop sheet
   unfolding own_upper
   case_simulated t coded e =
       let d = sym test ∙ t in
       let case = sets_in setting.inputs codes in
       let told = e _ (decided_sets setting.inputs codes coded d) in
       record {
-        is = ap (λ (c : Currents). c.drop) told.answered ∙ sym (evaluation_decided (simulated_drop file table) (envelope_drop file setting.hops table) case d);
+        is = ap (λ (c : Currents). c.drop) told.answered ∙ sym (evaluation_decided (pattern_drop setting) (case_drop setting) case d);
         low = told.low;
-        written = told.written ∙ ap sheet_words (sym (evaluation_decided (simulated_sheet file) (envelope_sheet setting.hops file) case d));
+        written = told.written ∙ ap sheet_words (sym (evaluation_decided (simulated_sheet setting.file.now) (envelope_sheet setting.hops setting.file.now) case d));
       }
 
-  pub case_enveloped : {sheet : List ℕ} {currents : Currents} → r ≡ false → Evaluated table (sheet_for file setting codes) currents sheet
-      → CaseEvaluated file setting table codes currents.drop sheet
+  pub case_enveloped : {sheet : List ℕ} {currents : Currents} → r ≡ false → Evaluated setting.table.now (sheet_for setting codes) currents sheet
+      → CaseEvaluated setting codes currents.drop sheet
   unfolding own_upper
   case_enveloped t e =
       let d = sym test ∙ t in
       let case = sets_in setting.inputs codes in
       record {
-        is = ap (λ (c : Currents). c.drop) e.answered ∙ sym (evaluation_undecided (simulated_drop file table) (envelope_drop file setting.hops table) case d);
+        is = ap (λ (c : Currents). c.drop) e.answered ∙ sym (evaluation_undecided (pattern_drop setting) (case_drop setting) case d);
         low = e.low;
-        written = e.written ∙ ap sheet_words (sym (evaluation_undecided (simulated_sheet file) (envelope_sheet setting.hops file) case d));
+        written = e.written ∙ ap sheet_words (sym (evaluation_undecided (simulated_sheet setting.file.now) (envelope_sheet setting.hops setting.file.now) case d));
       }

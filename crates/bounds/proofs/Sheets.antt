@@ -1,9 +1,9 @@
 -- Laws of the sheet of a search: a case drawn, a sheet raised to another, and the greatest over the cases drawn so far.
 -- Assumes nothing.
-use Prim.Native.Nat.{ℕ, ◌+◌, ◌*◌, ◌/◌, ◌%◌, ◌≤◌, max}
+use Prim.Native.Nat.{ℕ, ◌+◌, ◌*◌, ◌/◌, ◌%◌, max}
 use mathlib.Core.List.{List}
 use mathlib.Core.Path.{◌≡◌, ap, sym, ◌∙◌}
-use lib.ListN.{get_or}
+use lib.ListN.{get_or, take, drop}
 use Rattle.laws.specs.Below.{max_below}
 use Rattle.laws.specs.Rewritten.{Rewritten}
 use Rattle.laws.proofs.Below.{max_next, max_same}
@@ -25,12 +25,13 @@ abbrev pub sheet_of_case : File → ℕ → ℕ → List ℕ → ℕ → Sheet
 sheet_of_case file hops inputs store k = evaluation_of (simulated_sheet file) (envelope_sheet hops file) (case_in inputs store k).sets
 
 -- A case drawn, from its sets as they were copied from the store.
-pub case_drawn : (file : File) (setting : Setting) → setting.inputs ≤ 64 → (store : List ℕ) (k : ℕ) {given codes table : List ℕ} {upper : ℕ} {sheet : List ℕ}
-    → Rewritten (λ j. get_or store (72 * k + j) 0) 0 64 given codes → CaseEvaluated file setting table codes upper sheet
-    → sheet ≡ sheet_words (sheet_of_case file setting.hops setting.inputs store k)
-case_drawn file setting few store k {given} {codes} copied evaluated =
+pub case_drawn : (setting : Setting) (store : List ℕ) (k : ℕ) {codes : List ℕ} {upper : ℕ} {sheet : List ℕ}
+    → codes ≡ take 64 (drop (72 * k) store) → CaseEvaluated setting codes upper sheet
+    → sheet ≡ sheet_words (sheet_of_case setting.file.now setting.hops setting.inputs store k)
+case_drawn setting store k {codes} copied evaluated =
+    let file = setting.file.now in
     evaluated.written
-    ∙ ap (λ case. sheet_words (evaluation_of (simulated_sheet file) (envelope_sheet setting.hops file) case)) (sets_copied setting.inputs few store k given codes copied)
+    ∙ ap (λ case. sheet_words (evaluation_of (simulated_sheet file) (envelope_sheet setting.hops file) case)) (sets_copied setting.inputs setting.accepted.few_inputs store k codes copied)
 
 -- A sheet raised to another, word by word.
 

@@ -29,33 +29,43 @@ sheet_over file hops = cases_sheet (simulated_sheet file) (envelope_sheet hops f
 unfoldable pub own_upper : File → ℕ → List ℕ → Case → ℕ
 own_upper file hops table = evaluation_of (simulated_drop file table) (envelope_drop file hops table)
 
+-- The drops of a pattern and of a case, and the sheet of the case with these codes, under a setting.
+abbrev pub pattern_drop : Setting → List Excitation → ℕ
+pattern_drop setting = simulated_drop setting.file.now setting.table.now
+
+abbrev pub case_drop : Setting → Case → ℕ
+case_drop setting = envelope_drop setting.file.now setting.hops setting.table.now
+
+abbrev pub case_sheet : Setting → List ℕ → Sheet
+case_sheet setting codes = evaluation_of (simulated_sheet setting.file.now) (envelope_sheet setting.hops setting.file.now) (sets_in setting.inputs codes)
+
 -- The drop of a case's probe, given the codes of the case's sets.
-abbrev pub probe_drop : File → Setting → List ℕ → List ℕ → ℕ
-probe_drop file setting table codes = simulated_drop file table (probe (sets_in setting.inputs codes))
+abbrev pub probe_drop : Setting → List ℕ → ℕ
+probe_drop setting codes = pattern_drop setting (probe (sets_in setting.inputs codes))
 
 -- The upper number before the cap of the case with these codes.
-abbrev pub upper_of : File → Setting → List ℕ → List ℕ → ℕ
-upper_of file setting table codes = own_upper file setting.hops table (sets_in setting.inputs codes)
+abbrev pub upper_of : Setting → List ℕ → ℕ
+upper_of setting codes = own_upper setting.file.now setting.hops setting.table.now (sets_in setting.inputs codes)
 
 -- A case evaluated: its upper number before the cap, and its sheet.
-pub record CaseEvaluated (file : File) (setting : Setting) (table codes : List ℕ) (upper : ℕ) (sheet : List ℕ) : Type 0 where
-  pub is : upper ≡ upper_of file setting table codes
+pub record CaseEvaluated (setting : Setting) (codes : List ℕ) (upper : ℕ) (sheet : List ℕ) : Type 0 where
+  pub is : upper ≡ upper_of setting codes
   pub low : upper < drop_limit
-  pub written : sheet ≡ sheet_words (evaluation_of (simulated_sheet file) (envelope_sheet setting.hops file) (sets_in setting.inputs codes))
+  pub written : sheet ≡ sheet_words (case_sheet setting codes)
 
 -- A case bounded: its record.
-pub record CaseBounded (file : File) (setting : Setting) (table codes : List ℕ) (cap at : ℕ) (store store' : List ℕ) : Type 0 where
-  pub stored : Rewritten (record_byte codes (min cap (upper_of file setting table codes))) (72 * at) 72 store store'
-  pub upper_low : upper_of file setting table codes < drop_limit
+pub record CaseBounded (setting : Setting) (codes : List ℕ) (cap at : ℕ) (store store' : List ℕ) : Type 0 where
+  pub stored : Rewritten (record_byte codes (min cap (upper_of setting codes))) (72 * at) 72 store store'
+  pub upper_low : upper_of setting codes < drop_limit
 
 -- A case made: its record, and the best probe. A probe is the best so far where its drop reaches the threshold, which is 0 before the
 -- first case and L + 1 afterwards.
-pub record CaseMade (file : File) (setting : Setting) (table codes : List ℕ) (cap threshold at : ℕ) (store pattern : List ℕ)
+pub record CaseMade (setting : Setting) (codes : List ℕ) (cap threshold at : ℕ) (store pattern : List ℕ)
     (threshold' : ℕ) (store' pattern' : List ℕ) : Type 0 where
-  pub stored : Rewritten (record_byte codes (min cap (upper_of file setting table codes))) (72 * at) 72 store store'
-  pub upper_low : upper_of file setting table codes < drop_limit
-  pub drop_low : probe_drop file setting table codes < drop_limit
-  pub kept : probe_drop file setting table codes < threshold → (threshold' ≡ threshold) × (pattern' ≡ pattern)
-  pub reached : threshold ≤ probe_drop file setting table codes
-      → (threshold' ≡ probe_drop file setting table codes + 1)
+  pub stored : Rewritten (record_byte codes (min cap (upper_of setting codes))) (72 * at) 72 store store'
+  pub upper_low : upper_of setting codes < drop_limit
+  pub drop_low : probe_drop setting codes < drop_limit
+  pub kept : probe_drop setting codes < threshold → (threshold' ≡ threshold) × (pattern' ≡ pattern)
+  pub reached : threshold ≤ probe_drop setting codes
+      → (threshold' ≡ probe_drop setting codes + 1)
       × Rewritten (pattern_byte (probe (sets_in setting.inputs codes))) 0 setting.inputs pattern pattern'

@@ -2,10 +2,9 @@
 ghost use Rattle.std.specs.Prelude.{◌≡◌, ◌*◌, max, length, get_or, drop};
 ghost use Rattle.laws.specs.Rewritten.{Rewritten};
 ghost use Rattle.sheet.specs.Sheet.{sheet_words};
-ghost use Rattle.cases.specs.Case.{evaluation_of};
-ghost use Rattle.cases.specs.Records.{cases_in, case_in, HasCases, HasCase, SetCodes};
-ghost use Rattle.evaluation.specs.Evaluation.{simulated_sheet, envelope_sheet, Evaluable};
-ghost use Rattle.bounds.specs.Bounds.{sheet_over};
+ghost use Rattle.cases.specs.Records.{cases_in, HasCases, HasCase, SetCodes};
+ghost use Rattle.evaluation.specs.Evaluation.{Evaluable};
+ghost use Rattle.bounds.specs.Bounds.{case_sheet, sheet_over};
 
 use super::evaluate;
 use cases::{CaseNumber, store};
@@ -23,40 +22,23 @@ fn raise(sheet: &mut [Word], other: &[Word])
 }
 
 // Draws the sheet of case k: its simulation where it is decided, else its envelope.
-fn draw_case(
-    file: &[u8],
-    setting: Setting,
-    table: &[u16],
-    store: &[u8],
-    k: CaseNumber,
-    sheet: &mut [Word],
-    work: &mut [u8],
-)
-    requires { Evaluable file.now setting sheet.old work.old × HasCase store.now k.0 × SetCodes setting.inputs (drop (72 * k.0) store.now) }
-    ensures { sheet.new ≡ sheet_words (evaluation_of (simulated_sheet file.now) (envelope_sheet setting.hops file.now) (case_in setting.inputs store.now k.0).sets) }
+fn draw_case(setting: Setting<'_>, store: &[u8], k: CaseNumber, sheet: &mut [Word], work: &mut [u8])
+    requires { Evaluable setting sheet.old work.old × HasCase store.now k.0 × SetCodes setting.inputs (drop (72 * k.0) store.now) }
+    ensures { sheet.new ≡ sheet_words (case_sheet setting.entry (drop (72 * k.0) store.now)) }
 {
-    let mut codes = [0u8; 64];
-    store::read_sets(store, k, &mut codes);
-    evaluate::evaluate_case(file, setting, table, &codes, sheet, work);
+    let codes = store::read_sets(store, k);
+    evaluate::evaluate_case(setting, &codes, sheet, work);
 }
 
 // Draws the sheet over the first n cases.
-pub fn draw_cases(
-    file: &[u8],
-    setting: Setting,
-    table: &[u16],
-    store: &[u8],
-    n: usize,
-    sheet: &mut [Word],
-    work: &mut [u8],
-)
-    requires { Evaluable file.now setting sheet.old work.old × HasCases setting.inputs store.now n }
-    ensures { sheet.new ≡ sheet_words (sheet_over file.now setting.hops (cases_in setting.inputs store.now n)) }
+pub fn draw_cases(setting: Setting<'_>, store: &[u8], n: usize, sheet: &mut [Word], work: &mut [u8])
+    requires { Evaluable setting sheet.old work.old × HasCases setting.inputs store.now n }
+    ensures { sheet.new ≡ sheet_words (sheet_over setting.entry.file.now setting.entry.hops (cases_in setting.entry.inputs store.now n)) }
 {
     let mut one: [Word; 8192] = [0; 8192];
     sheet::clear(sheet);
     for k in 0..n {
-        draw_case(file, setting, table, store, CaseNumber(k), &mut one, work);
+        draw_case(setting, store, CaseNumber(k), &mut one, work);
         raise(sheet, &one);
     }
 }

@@ -10,21 +10,19 @@ use sheet::Word;
 
 // Draws the sheet of a case, and returns its upper number before the cap, which is the sheet's drop. No probe is simulated.
 pub fn evaluate_case(
-    file: &[u8],
-    setting: Setting,
-    table: &[u16],
-    codes: &[u8],
+    setting: Setting<'_>,
+    codes: &[u8; 64],
     sheet: &mut [Word],
     work: &mut [u8],
 ) -> u64
-    requires { Evaluable file.now setting sheet.old work.old × (length codes.now ≡ 64) × SetCodes setting.inputs codes.now }
-    ensures { CaseEvaluated file.now setting table.now codes.now result sheet.new }
+    requires { Evaluable setting sheet.old work.old × SetCodes setting.inputs codes.now }
+    ensures { CaseEvaluated setting.entry codes.now result sheet.new }
 {
     let decided = sets::is_decided(codes, setting.inputs);
     if decided {
-        let simulated = simulator::evaluate_singles(file, setting, codes, table, sheet, work);
+        let simulated = simulator::evaluate_singles(setting, codes, sheet, work);
         return simulated.drop;
     }
-    let enveloped = evaluation::evaluate(file, setting, codes, table, sheet, work);
+    let enveloped = setting.evaluate(codes, sheet, work);
     enveloped.drop
 }

@@ -11,10 +11,10 @@ use lib.Seq.{get_or-set_same, get_or-set_other}
 use borrow.Table.Steps.{cases}
 use Rattle.laws.proofs.Numbers.{of_each}
 use Rattle.laws.proofs.Turn.{list_is}
-use Rattle.excitation.specs.Excitation.{excitation_of, byte_of}
+use Rattle.excitation.specs.Excitation.{l, h, hl, lh, excitation_of, byte_of}
 use Rattle.excitation.specs.UncertaintySet.{UncertaintySet, member, empty, code, decode, single, sets_in}
 use Rattle.excitation.specs.declared.Excitation.{Excitation}
-use Rattle.excitation.proofs.Bytes.{byte_back}
+use Rattle.excitation.proofs.Bytes.{byte_forth}
 use Rattle.excitation.proofs.Codes.{code_below, decode_code, set_at, sets_long}
 use Rattle.excitation.proofs.Finite.{for_each}
 use Rattle.cases.specs.Case.{Case, first_allowed, probe, members_below, children_below}
@@ -27,9 +27,9 @@ single_low = for_each (λ x. 1 ≤ code (single x)) (omega arith) (omega arith) 
 
 -- The bytes of a child's sets, and its sets.
 
-module _ (inputs : ℕ) (few : inputs ≤ 64) (parent : List ℕ) (long : length parent ≡ 64) (input : ℕ) (inside : input < inputs) (e : ℕ) where
+module _ (inputs : ℕ) (few : inputs ≤ 64) (parent : List ℕ) (long : length parent ≡ 64) (input : ℕ) (inside : input < inputs) (e : Excitation) where
   abbrev one : UncertaintySet
-  one = single (excitation_of e)
+  one = single e
 
   byte_here : get_or (child_codes parent input e) input 0 ≡ code one
   byte_here = get_or-set_same parent input (code one) 0 (omega arith)
@@ -40,7 +40,7 @@ module _ (inputs : ℕ) (few : inputs ≤ 64) (parent : List ℕ) (long : length
   pub child_coded : SetCodes inputs parent → SetCodes inputs (child_codes parent input e)
   child_coded coded = record {
     low = of_each (λ net. net < inputs → 1 ≤ get_or (child_codes parent input e) net 0) input
-        (λ h. omega (arith, byte_here, single_low (excitation_of e)))
+        (λ h. omega (arith, byte_here, single_low e))
         (λ net d h. omega (arith, byte_other net d, coded.low net h));
     high = of_each (λ net. net < inputs → get_or (child_codes parent input e) net 0 ≤ 15) input
         (λ h. omega (arith, byte_here, code_below one))
@@ -60,12 +60,23 @@ module _ (inputs : ℕ) (few : inputs ≤ 64) (parent : List ℕ) (long : length
       (λ net d h. get_or-set_other sets input net one empty d ∙ set_at inputs parent net empty h ∙ ap decode (sym (byte_other net d)))))
 
   -- The child of the first allowed of the parent's set has the parent's probe.
-  pub child_probe : e ≡ byte_of (first_allowed (decode (get_or parent input 0))) → probe (sets_in inputs (child_codes parent input e)) ≡ probe (sets_in inputs parent)
+  pub child_probe : e ≡ first_allowed (decode (get_or parent input 0)) → probe (sets_in inputs (child_codes parent input e)) ≡ probe (sets_in inputs parent)
   child_probe first =
       let sets = sets_in inputs parent in
-      let is : excitation_of e ≡ first_allowed (get_or sets input empty) =
-      ap excitation_of first ∙ byte_back (first_allowed (decode (get_or parent input 0))) ∙ ap first_allowed (sym (set_at inputs parent input empty inside)) in
+      let is : e ≡ first_allowed (get_or sets input empty) = first ∙ ap first_allowed (sym (set_at inputs parent input empty inside)) in
       ap probe child_sets ∙ ap (λ x. probe (set sets input (single x))) is ∙ probe_kept sets input
+
+-- The excitations in the order of their bytes, in which the children are made.
+
+abbrev pub in_order : ℕ → Excitation
+in_order k = get_or (l ∷ h ∷ hl ∷ lh ∷ []) k l
+
+pub in_order_is : (k : ℕ) → in_order k ≡ excitation_of k
+unfolding excitation_of
+in_order_is k = refl
+
+pub in_order_byte : (k : ℕ) → k < 4 → byte_of (in_order k) ≡ k
+in_order_byte k below = ap byte_of (in_order_is k) ∙ byte_forth k (omega arith)
 
 -- There are no more children than excitations.
 

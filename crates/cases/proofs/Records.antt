@@ -5,14 +5,15 @@ use Prim.Native.Nat.{ℕ, ◌+◌, ◌*◌, ◌/◌, ◌%◌, ◌^◌, ◌≤◌
 use mathlib.Core.List.{List, [], ◌∷◌, ◌++◌}
 use mathlib.Core.Path.{◌≡◌, refl, ap, sym, subst, ◌∙◌}
 use native.Mathlib.Omega.{arith}
-use lib.ListN.{length, get_or, drop, set, length-set, get_or-append}
-use lib.Seq.{get_or-drop, get_or-append-add, get_or-set_same, get_or-set_other}
+use lib.ListN.{length, get_or, take, drop, set, length-drop, length-set, get_or-append}
+use Rattle.std.proofs.lemmas.List.{length-take}
+use lib.Seq.{get_or-take, get_or-drop, get_or-append-add, get_or-set_same, get_or-set_other}
 use Rattle.laws.specs.Below.{max_below, argmax}
 use Rattle.laws.specs.Rewritten.{Rewritten}
 use Rattle.laws.specs.Turn.{list_below}
 use Rattle.laws.proofs.Below.{max_same, argmax_is, argmax_same}
 use Rattle.laws.proofs.Numbers.{of_each, outside_record}
-use Rattle.laws.proofs.Rewritten.{rewritten_first, rewritten_append}
+use Rattle.laws.proofs.Rewritten.{rewritten_append}
 use Rattle.laws.proofs.Turn.{list_at, list_long, list_next, list_is, list_same}
 use Rattle.numbers.proofs.WordBytes.{word_same, word_held}
 use Rattle.excitation.specs.UncertaintySet.{sets_in}
@@ -154,10 +155,13 @@ module _ (inputs : ℕ) (few : inputs ≤ 64) (codes : List ℕ) (long : length 
 
 -- The sets of a case, copied from its record.
 
-module _ (inputs : ℕ) (few : inputs ≤ 64) (store : List ℕ) (k : ℕ) (given codes : List ℕ)
-    (copied : Rewritten (λ j. get_or store (72 * k + j) 0) 0 64 given codes) where
+pub copied_long : {store codes : List ℕ} {k : ℕ} → HasCase store k → codes ≡ take 64 (drop (72 * k) store) → length codes ≡ 64
+copied_long {store} {k = k} has copied =
+    omega (arith, ap length copied, length-take 64 (drop (72 * k) store), length-drop (72 * k) store, has.whole)
+
+module _ (inputs : ℕ) (few : inputs ≤ 64) (store : List ℕ) (k : ℕ) (codes : List ℕ) (copied : codes ≡ take 64 (drop (72 * k) store)) where
   code_copied : (j : ℕ) → j < 64 → get_or (drop (72 * k) store) j 0 ≡ get_or codes j 0
-  code_copied j h = get_or-drop (72 * k) store j 0 ∙ sym (rewritten_first (λ j. get_or store (72 * k + j) 0) 64 given codes copied j h)
+  code_copied j h = sym (ap (λ xs. get_or xs j 0) copied ∙ get_or-take 64 (drop (72 * k) store) j 0 h)
 
   pub sets_copied : sets_in inputs codes ≡ (case_in inputs store k).sets
   sets_copied = sym (sets_same inputs _ _ (λ net h. code_copied net (omega arith)))

@@ -7,15 +7,13 @@ use mathlib.Core.Path.{◌≡◌, ap, sym, ◌∙◌}
 use native.Mathlib.Omega.{arith}
 use lib.ListN.{get_or}
 use borrow.Author.Tests.{not-true}
-use Rattle.laws.specs.Rewritten.{Rewritten}
 use Rattle.laws.specs.Turn.{list_below}
 use Rattle.laws.proofs.Below.{all_at}
-use Rattle.laws.proofs.Rewritten.{rewritten_first}
 use Rattle.laws.proofs.Turn.{list_map, list_same}
-use Rattle.excitation.specs.UncertaintySet.{code, decode, empty, single, sets_in}
+use Rattle.excitation.specs.UncertaintySet.{decode, empty, single, sets_in}
 use Rattle.excitation.proofs.Codes.{decode_code, some_member}
 use Rattle.cases.specs.Case.{decided, first_allowed, probe}
-use Rattle.cases.specs.Records.{SetCodes}
+use Rattle.cases.specs.Records.{SetCodes, ProbeCodes}
 use Rattle.cases.proofs.Cases.{decided_single}
 use Rattle.cases.proofs.Codes.{decided_at, decided_codes}
 
@@ -27,13 +25,12 @@ singles_are inputs codes =
     ∙ list_map single inputs (λ net. first_allowed (decode (get_or codes net 0)))
 
 -- The codes that are written for a probe.
-pub probe_sets : (inputs : ℕ) (codes : List ℕ) {given singles : List ℕ}
-    → Rewritten (λ net. code (single (first_allowed (decode (get_or codes net 0))))) 0 inputs given singles
+pub probe_sets : {inputs : ℕ} {codes singles : List ℕ} → ProbeCodes inputs codes singles
     → sets_in inputs singles ≡ map single (probe (sets_in inputs codes))
 unfolding sets_in
-probe_sets inputs codes {given} {singles} written =
+probe_sets {inputs} {codes} {singles} coded =
     list_same inputs (λ net. decode (get_or singles net 0)) (λ net. single (first_allowed (decode (get_or codes net 0)))) empty
-    (λ net h. ap decode (rewritten_first _ inputs given singles written net h) ∙ decode_code _)
+    (λ net h. ap decode (coded.at net h) ∙ decode_code _)
     ∙ sym (singles_are inputs codes)
 
 -- The codes of a decided case.

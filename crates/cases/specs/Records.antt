@@ -2,9 +2,10 @@
 use Rattle.std.specs.Prelude.{ℕ, ◌+◌, ◌*◌, ◌≤◌, ◌<◌, List, ◌++◌, ◌≡◌, length, get_or, drop, set}
 use Rattle.laws.specs.Turn.{list_below}
 use Rattle.numbers.specs.Words.{word_from}
-use Rattle.excitation.specs.Excitation.{excitation_of}
-use Rattle.excitation.specs.UncertaintySet.{code, single, sets_in}
+use Rattle.excitation.specs.UncertaintySet.{code, decode, single, sets_in}
+use Rattle.excitation.specs.declared.Excitation.{Excitation}
 use Rattle.block.specs.Limits.{drop_limit}
+use Rattle.cases.specs.Case.{first_allowed}
 use Rattle.cases.specs.Search.{StoredCase}
 use Rattle.cases.specs.Store.{number_bytes}
 
@@ -31,8 +32,12 @@ pub record SetCodes (inputs : ℕ) (codes : List ℕ) : Type 0 where
   pub none : (j : ℕ) → inputs ≤ j → j < 64 → get_or codes j 0 ≡ 0
 
 -- The bytes of a child's sets: those of its parent, but for the input that is split, which has one excitation.
-abbrev pub child_codes : List ℕ → ℕ → ℕ → List ℕ
-child_codes parent input e = set parent input (code (single (excitation_of e)))
+abbrev pub child_codes : List ℕ → ℕ → Excitation → List ℕ
+child_codes parent input e = set parent input (code (single e))
+
+-- Codes of the single sets of the probe of the case with these codes.
+pub record ProbeCodes (inputs : ℕ) (codes singles : List ℕ) : Type 0 where
+  pub at : (net : ℕ) → net < inputs → get_or singles net 0 ≡ code (single (first_allowed (decode (get_or codes net 0))))
 
 -- A store whose first n records are those of cases.
 pub record HasCases (inputs : ℕ) (store : List ℕ) (n : ℕ) : Type 0 where

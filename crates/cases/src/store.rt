@@ -1,5 +1,5 @@
 // The case store: a record of 72 bytes for each case, 64 bytes of input sets and 8 bytes of upper number, low first.
-ghost use Rattle.std.specs.Prelude.{◌≡◌, ◌+◌, ◌*◌, ◌≤◌, ◌<◌, length, get_or};
+ghost use Rattle.std.specs.Prelude.{◌≡◌, ◌+◌, ◌*◌, ◌≤◌, ◌<◌, length, take, drop};
 ghost use Rattle.laws.specs.Below.{argmax};
 ghost use Rattle.laws.specs.Rewritten.{Rewritten};
 ghost use Rattle.cases.specs.Records.{upper_in, HasCase, record_byte};
@@ -9,13 +9,15 @@ use super::CaseNumber;
 // Form kept: what may not change: the search calls these functions with the lent store and a case's number, and `HasCase` in their contracts
 // says what the two have to do with each other.
 
-// Copies the 64 bytes of a case's sets.
-pub fn read_sets(store: &[u8], case: CaseNumber, codes: &mut [u8])
-    requires { HasCase store.now case.0 × (length codes.old ≡ 64) }
-    ensures { Rewritten (λ j. get_or store.now (72 * case.0 + j) 0) 0 64 codes.old codes.new }
+// The 64 bytes of a case's sets.
+pub fn read_sets(store: &[u8], case: CaseNumber) -> [u8; 64]
+    requires { HasCase store.now case.0 }
+    ensures { result ≡ take 64 (drop (72 * case.0) store.now) }
 {
     let start = case.start();
+    let mut codes = [0u8; 64];
     codes.copy_from_slice(&store[start..start + 64]);
+    codes
 }
 
 // The upper number of a case.
@@ -27,8 +29,8 @@ pub fn upper(store: &[u8], case: CaseNumber) -> u64
 }
 
 // Writes the record of a case.
-pub fn write_case(store: &mut [u8], case: CaseNumber, codes: &[u8], upper: u64)
-    requires { HasCase store.old case.0 × (length codes.now ≡ 64) }
+pub fn write_case(store: &mut [u8], case: CaseNumber, codes: &[u8; 64], upper: u64)
+    requires { HasCase store.old case.0 }
     ensures { Rewritten (record_byte codes.now upper) (72 * case.0) 72 store.old store.new }
 {
     let start = case.start();

@@ -28,20 +28,14 @@ fn check_arguments(
     arguments::check_work(nets, work)
 }
 
-// The envelope of an accepted file's frame.
-fn evaluate_frame(
-    file: &[u8],
-    setting: Setting,
-    table: &[u16],
-    sheet: &mut [Word],
-    work: &mut [u8],
-) -> Currents
-    requires { Evaluable file.now setting sheet.old work.old }
-    ensures { Evaluated table.now (frame_sheet setting.hops file.now) result sheet.new }
+// The envelope of a block's frame.
+fn evaluate_frame(setting: Setting<'_>, sheet: &mut [Word], work: &mut [u8]) -> Currents
+    requires { Evaluable setting sheet.old work.old }
+    ensures { Evaluated setting.entry.table.now (frame_sheet setting.entry.hops setting.entry.file.now) result sheet.new }
 {
     let mut codes = [0u8; 64];
-    block::frame_codes(file, setting.inputs, &mut codes);
-    evaluation::evaluate(file, setting, &codes, table, sheet, work)
+    block::frame_codes(setting.file, setting.inputs, &mut codes);
+    setting.evaluate(&codes, sheet, work)
 }
 
 // Envelope: the checks in order, then the sheet, drop and quiet tick of the frame.
@@ -57,9 +51,11 @@ pub fn envelope(
     let Counts { nets, inputs } = block::read(file)?;
     check_arguments(nets, hops, table.len(), sheet.len(), work.len())?;
     let setting = Setting {
+        file,
+        table,
         nets,
         inputs,
         hops: hops as usize,
     };
-    Ok(evaluate_frame(file, setting, table, sheet, work))
+    Ok(evaluate_frame(setting, sheet, work))
 }

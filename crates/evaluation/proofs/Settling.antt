@@ -17,17 +17,16 @@ use Rattle.excitation.specs.Excitation.{hl, lh}
 use Rattle.excitation.specs.UncertaintySet.{UncertaintySet, member, empty, sets_in}
 use Rattle.block.specs.Accepted.{AcceptedFile}
 use Rattle.block.specs.Block.{arrivals, arrival, arrival_from, last_pulse_end, settling_tick}
-use Rattle.block.specs.Limits.{resistance_limit, word_limit}
+use Rattle.block.specs.Limits.{drop_limit, word_limit}
 use Rattle.block.specs.Record.{File, net_count, is_input}
 use Rattle.block.specs.View.{gate_of, GateRead}
 use Rattle.block.specs.declared.Gate.{Gate}
 use Rattle.block.proofs.Accepted.{arrival_at}
 use Rattle.sheet.specs.Changes.{restored_in, Restored}
 use Rattle.sheet.specs.Quiet.{Empty}
-use Rattle.sheet.specs.Sheet.{Sheet, sheet_words, sheet_in, drop_of, quiet_tick}
+use Rattle.sheet.specs.Sheet.{Sheet, sheet_words, sheet_in, quiet_tick}
 use Rattle.sheet.specs.Sums.{Droppable}
 use Rattle.sheet.proofs.Changes.{no_change}
-use Rattle.sheet.proofs.Totals.{drop_below}
 use Rattle.sheet.proofs.QuietTick.{quiet_last}
 use Rattle.sheet.proofs.Sheets.{sheet_is, drop_of_words, quiet_of_words}
 use Rattle.waveform.specs.Waveform.{envelope}
@@ -35,7 +34,8 @@ use Rattle.waveform.proofs.Settles.{first_tick, waveform_of, net_settles}
 use Rattle.current.specs.Current.{gate_current, part, contact_current, transitions_of, sheet_of}
 use Rattle.current.proofs.Contacts.{part_of_gate, part_of_input}
 use Rattle.current.proofs.Currents.{current_waits, current_quiet}
-use Rattle.evaluation.specs.Evaluation.{envelope_sheet, sheet_for, BlockDrawn, Evaluated}
+use Rattle.operation.specs.declared.Currents.{Currents}
+use Rattle.evaluation.specs.Evaluation.{envelope_sheet, sheet_for, BlockDrawn, currents_of, Evaluated}
 use Rattle.evaluation.specs.declared.Setting.{Setting}
 use Rattle.evaluation.proofs.Drawing.{transition_lists, net_transitions}
 
@@ -133,15 +133,15 @@ module _ (file : File) (nets inputs : ℕ) (accepted : AcceptedFile file nets in
     quiet_empty e = (quiet_last (envelope_sheet hops file sets)).at (λ c h. ap (envelope_sheet hops file sets c) e ∙ sheet_waits c)
 
 -- A block that is drawn, once the currents are restored up to past the settling tick.
-module _ {file : File} {setting : Setting} {codes words after : List ℕ} {settling : ℕ} (accepted : AcceptedFile file setting.nets setting.inputs)
-    (drawn : BlockDrawn file setting codes settling words) (restored : Restored (settling + 2) words after)
+module _ {setting : Setting} {codes words after : List ℕ} {settling : ℕ}
+    (drawn : BlockDrawn setting codes settling words) (restored : Restored (settling + 2) words after)
     (fits : (i : ℕ) → get_or words i 0 < word_limit) where
   abbrev drawn_sheet : Sheet
-  drawn_sheet = sheet_for file setting codes
+  drawn_sheet = sheet_for setting codes
 
   quiet_after : (c t : ℕ) → settling < t → drawn_sheet c t ≡ 0
   quiet_after c t h =
-      sheet_quiet file setting.nets setting.inputs accepted setting.hops (sets_in setting.inputs codes) c t (omega (arith, drawn.settled))
+      sheet_quiet setting.file.now setting.nets setting.inputs setting.accepted setting.hops (sets_in setting.inputs codes) c t (omega (arith, drawn.settled))
 
   -- Past the ticks that are restored the words are the currents already: no current flows, so that nothing changes.
   still_after : (c t : ℕ) → c < 16 → settling + 2 ≤ suc t → suc t < 512 → sheet_in words c (suc t) ≡ 0
@@ -180,13 +180,11 @@ module _ {file : File} {setting : Setting} {codes words after : List ℕ} {settl
   }
 
   -- With its drop taken and its quiet tick found, it is evaluated.
-  pub evaluated : {table : List ℕ} {drop quiet : ℕ} → drop ≡ drop_of table (sheet_in after) → quiet ≡ quiet_tick (sheet_in after)
-      → ((i : ℕ) → get_or table i 0 < resistance_limit) → Evaluated table drawn_sheet (record { drop = drop; quiet = quiet }) after
-  evaluated {table} {drop} {quiet} is last small =
-      let drop_is : drop ≡ drop_of table drawn_sheet = is ∙ drop_of_words table drawn_sheet sheet_restored in
-      let quiet_is : quiet ≡ quiet_tick drawn_sheet = last ∙ quiet_of_words drawn_sheet sheet_restored in
-      record {
-        answered = λ i. record { drop = drop_is i; quiet = quiet_is i };
-        written = sheet_restored;
-        low = omega (arith, is, drop_below table (sheet_in after) small restored_droppable.most);
-      }
+  pub evaluated : {table : List ℕ} {answer : Currents} → answer ≡ currents_of table (sheet_in after) → answer.drop < drop_limit
+      → Evaluated table drawn_sheet answer after
+  evaluated {table} is low = record {
+    answered = is
+        ∙ (λ i. record { drop = drop_of_words table drawn_sheet sheet_restored i; quiet = quiet_of_words drawn_sheet sheet_restored i });
+    written = sheet_restored;
+    low = low;
+  }

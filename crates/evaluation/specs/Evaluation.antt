@@ -3,7 +3,6 @@ use Rattle.std.specs.Prelude.{ℕ, ◌*◌, ◌≤◌, ◌<◌, List, ◌≡◌,
 use Rattle.laws.specs.Below.{sum_below}
 use Rattle.excitation.specs.UncertaintySet.{UncertaintySet, decode, sets_in}
 use Rattle.excitation.specs.declared.Excitation.{Excitation}
-use Rattle.block.specs.Accepted.{AcceptedFile}
 use Rattle.block.specs.Block.{settling_tick, switching_tick}
 use Rattle.block.specs.Limits.{block_limit, drop_limit}
 use Rattle.block.specs.Record.{File}
@@ -28,10 +27,9 @@ pub record HasRows (work : List ℕ) (nets : ℕ) : Type 0 where
   pub whole : 160 * nets ≤ length work
   pub numbered : nets ≤ 1024
 
--- Codes of sets, one for each input at least.
-pub record InputCodes (inputs : ℕ) (codes : List ℕ) : Type 0 where
-  pub enough : inputs ≤ length codes
-  pub low : (net : ℕ) → net < inputs → get_or codes net 0 < 16
+-- Bytes of which one for each input codes a set.
+abbrev pub InputCodes : ℕ → List ℕ → Type 0
+InputCodes inputs codes = (net : ℕ) → net < inputs → get_or codes net 0 < 16
 
 -- The buffer once the inputs' waveforms are made.
 pub record InputsMade (file : File) (inputs : ℕ) (codes work after : List ℕ) : Type 0 where
@@ -40,25 +38,22 @@ pub record InputsMade (file : File) (inputs : ℕ) (codes work after : List ℕ)
   pub arrives : (net : ℕ) → net < inputs → arrival_in after net ≡ switching_tick file net
   pub settled : (net : ℕ) → net < inputs → SettledRow after net
 
--- What an evaluation is given beside the inputs' sets: an accepted file, its counts of nets and inputs with a hop limit, a sheet and a
--- work buffer.
-pub record Evaluable (file : File) (setting : Setting) (words work : List ℕ) : Type 0 where
-  pub accepted : AcceptedFile file setting.nets setting.inputs
-  pub some_hops : 1 ≤ setting.hops
+-- What is lent to an evaluation, beside the setting and the inputs' sets: a sheet, and a work buffer with room for the rows of the nets.
+pub record Evaluable (setting : Setting) (words work : List ℕ) : Type 0 where
   pub sheet_long : length words ≡ 8192
   pub rows : HasRows work setting.nets
 
 -- The sheet of a block whose inputs have the sets of these codes.
-abbrev pub sheet_for : File → Setting → List ℕ → Sheet
-sheet_for file setting codes = envelope_sheet setting.hops file (sets_in setting.inputs codes)
+abbrev pub sheet_for : Setting → List ℕ → Sheet
+sheet_for setting codes = envelope_sheet setting.hops setting.file.now (sets_in setting.inputs codes)
 
 -- Words of changes once every gate is drawn, and the tick after which no pulse is left. At no tick do the contacts draw more than all gates
 -- may.
-pub record BlockDrawn (file : File) (setting : Setting) (codes : List ℕ) (settling : ℕ) (words : List ℕ) : Type 0 where
+pub record BlockDrawn (setting : Setting) (codes : List ℕ) (settling : ℕ) (words : List ℕ) : Type 0 where
   pub long : length words ≡ 8192
-  pub at : (c t : ℕ) → c < 16 → t < 512 → restored_in words c t ≡ sheet_for file setting codes c t
+  pub at : (c t : ℕ) → c < 16 → t < 512 → restored_in words c t ≡ sheet_for setting codes c t
   pub most : (t : ℕ) → t < 512 → sum_below 16 (λ c. restored_in words c t) ≤ block_limit
-  pub settled : settling ≡ settling_tick file
+  pub settled : settling ≡ settling_tick setting.file.now
   pub soon : settling < 511
 
 -- The drop and the quiet tick of a sheet.

@@ -5,35 +5,34 @@ use mathlib.Core.Bool.{Bool, true, false, not, false≢true}
 use mathlib.Core.List.{List}
 use mathlib.Core.Path.{◌≡◌, refl, ap, sym, subst, ◌∙◌}
 use native.Mathlib.Omega.{arith}
-use lib.Dec.{eqb}
 use lib.ListN.{length, get_or}
-use borrow.Author.Tests.{eqb-true}
 use Rattle.laws.proofs.Tests.{confirmed}
-use Rattle.excitation.specs.Excitation.{excitation_of, byte_of}
+use Rattle.excitation.specs.Excitation.{same}
+use Rattle.excitation.proofs.Sets.{same_gives}
 use Rattle.excitation.specs.UncertaintySet.{member, decode, sets_in}
 use Rattle.excitation.specs.declared.Excitation.{Excitation}
 use Rattle.block.specs.Limits.{drop_limit}
-use Rattle.block.specs.Record.{File}
 use Rattle.cases.specs.Case.{first_allowed, probe}
 use Rattle.cases.specs.Records.{child_codes}
 use Rattle.cases.proofs.Children.{child_probe}
 use Rattle.evaluation.specs.declared.Setting.{Setting}
-use Rattle.bounds.specs.Bounds.{simulated_drop, probe_drop, CaseBounded, CaseMade}
+use Rattle.bounds.specs.Bounds.{pattern_drop, probe_drop, CaseBounded, CaseMade}
 use Rattle.search.specs.Steps.{ChildMade}
 use Rattle.search.specs.declared.split.Step.{Step}
 
 -- The probe's drop of the child that has its parent's probe is below the threshold where the parent's is.
-pub child_below : (file : File) (setting : Setting) (table parent : List ℕ) (input e : ℕ) {codes : List ℕ} {first threshold : ℕ} → setting.inputs ≤ 64
-    → length parent ≡ 64 → input < setting.inputs → codes ≡ child_codes parent input e → first ≡ byte_of (first_allowed (decode (get_or parent input 0)))
-    → probe_drop file setting table parent < threshold → eqb e first ≡ true → probe_drop file setting table codes < threshold
-child_below file setting table parent input e {codes} {first} {threshold} few long inside coded is below test =
-    let same = ap (λ bytes. probe (sets_in setting.inputs bytes)) coded ∙ child_probe setting.inputs few parent long input inside e (eqb-true e first test ∙ is) in
-    subst (λ pattern. simulated_drop file table pattern < threshold) (sym same) below
+pub child_below : (setting : Setting) (parent : List ℕ) (input : ℕ) (e : Excitation) {codes : List ℕ} {known : Bool} {threshold : ℕ}
+    → length parent ≡ 64 → input < setting.inputs → codes ≡ child_codes parent input e → known ≡ same e (first_allowed (decode (get_or parent input 0)))
+    → probe_drop setting parent < threshold → known ≡ true → probe_drop setting codes < threshold
+child_below setting parent input e {threshold = threshold} long inside coded is below test =
+    let first = same_gives e (first_allowed (decode (get_or parent input 0))) (sym is ∙ test) in
+    let kept = ap (λ bytes. probe (sets_in setting.inputs bytes)) coded ∙ child_probe setting.inputs setting.accepted.few_inputs parent long input inside e first in
+    subst (λ pattern. pattern_drop setting pattern < threshold) (sym kept) below
 
 -- A case bounded whose probe's drop is below the threshold is made: no probe is better.
-pub bounded_made : {file : File} {setting : Setting} {table codes : List ℕ} {cap threshold at : ℕ} {store store' pattern : List ℕ}
-    → CaseBounded file setting table codes cap at store store' → probe_drop file setting table codes < threshold → threshold ≤ drop_limit
-    → CaseMade file setting table codes cap threshold at store pattern threshold store' pattern
+pub bounded_made : {setting : Setting} {codes : List ℕ} {cap threshold at : ℕ} {store store' pattern : List ℕ}
+    → CaseBounded setting codes cap at store store' → probe_drop setting codes < threshold → threshold ≤ drop_limit
+    → CaseMade setting codes cap threshold at store pattern threshold store' pattern
 bounded_made bounded below low = record {
   stored = bounded.stored;
   upper_low = bounded.upper_low;
@@ -44,18 +43,14 @@ bounded_made bounded below low = record {
 
 -- A child made.
 
-allowed_is : (parent : List ℕ) (input e : ℕ) {x : Excitation} {allowed : Bool} → x ≡ excitation_of e
-    → allowed ≡ member x (decode (get_or parent input 0)) → allowed ≡ member (excitation_of e) (decode (get_or parent input 0))
-allowed_is parent input e is tested = tested ∙ ap (λ x. member x (decode (get_or parent input 0))) is
-
-pub child_made : {file : File} {setting : Setting} {table parent : List ℕ} {input e cap : ℕ} {step : Step} {store pattern : List ℕ}
-    {x : Excitation} {allowed : Bool} {codes : List ℕ} {threshold : ℕ} {after : Step} {store' pattern' : List ℕ}
-    → x ≡ excitation_of e → allowed ≡ member x (decode (get_or parent input 0)) → not allowed ≡ false
-    → codes ≡ child_codes parent input e → CaseMade file setting table codes cap step.threshold step.next.0 store pattern threshold store' pattern'
+pub child_made : {setting : Setting} {parent : List ℕ} {input : ℕ} {e : Excitation} {cap : ℕ} {step : Step} {store pattern : List ℕ}
+    {allowed : Bool} {codes : List ℕ} {threshold : ℕ} {after : Step} {store' pattern' : List ℕ}
+    → allowed ≡ member e (decode (get_or parent input 0)) → not allowed ≡ false
+    → codes ≡ child_codes parent input e → CaseMade setting codes cap step.threshold step.next.0 store pattern threshold store' pattern'
     → after ≡ record { cases = max (step.next.0 + 1) step.cases; next = record { 0 = max (step.next.0 + 1) step.cases }; threshold = threshold }
-    → ChildMade file setting table parent input e cap step store pattern after store' pattern'
-child_made {parent} {input} {e} is tested h coded made moved =
-    let yes = confirmed (allowed_is parent input e is tested) h in
+    → ChildMade setting parent input e cap step store pattern after store' pattern'
+child_made tested h coded made moved =
+    let yes = confirmed tested h in
     record {
       skipped = λ t. absurd (false≢true (sym t ∙ yes));
       made = λ t. rw (← coded, moved) made;

@@ -11,10 +11,9 @@ use Rattle.laws.specs.Rewritten.{Rewritten}
 use Rattle.laws.specs.Turn.{in_turn, list_below}
 use Rattle.excitation.specs.UncertaintySet.{sets_in}
 use Rattle.excitation.specs.declared.Excitation.{Excitation}
-use Rattle.block.specs.Accepted.{AcceptedFile}
 use Rattle.block.specs.Block.{frame}
 use Rattle.block.specs.Limits.{drop_limit}
-use Rattle.block.specs.Record.{File, allowed}
+use Rattle.block.specs.Record.{allowed}
 use Rattle.block.proofs.Frames.{frame_sets}
 use Rattle.cases.specs.Case.{Case, probe, evaluation_of}
 use Rattle.cases.specs.Records.{cases_in, HasCases}
@@ -24,7 +23,7 @@ use Rattle.cases.proofs.Codes.{probe_low, probe_read}
 use Rattle.cases.proofs.Frames.{codes_long, frame_coded}
 use Rattle.cases.proofs.Records.{case_of, cases_appended, has_appended}
 use Rattle.evaluation.specs.declared.Setting.{Setting}
-use Rattle.bounds.specs.Bounds.{simulated_drop, envelope_drop, own_upper, CaseMade}
+use Rattle.bounds.specs.Bounds.{pattern_drop, case_drop, own_upper, CaseMade}
 use Rattle.search.specs.Steps.{best_in, state_in, Running, PastKept, FirstMade}
 
 -- Of every store the first 0 records are those of cases.
@@ -46,14 +45,14 @@ state_is : {cases others : List StoredCase} {best other : Best} → cases ≡ ot
 state_is e f = λ i. record { cases = e i; best = f i }
 
 -- The first case is made, at the first place, under a cap that is above every upper number and with every drop enough to be the best.
-module _ {file : File} {setting : Setting} (accepted : AcceptedFile file setting.nets setting.inputs) {table codes : List ℕ}
-    (coded : Rewritten (allowed file) 0 setting.inputs (replicate 64 0) codes) {cap threshold : ℕ} {store pattern store' pattern' : List ℕ}
-    (made : CaseMade file setting table codes cap 0 0 store pattern threshold store' pattern') (high : drop_limit ≤ cap) where
+module _ {setting : Setting} {codes : List ℕ}
+    (coded : Rewritten (allowed setting.file.now) 0 setting.inputs (replicate 64 0) codes) {cap threshold : ℕ} {store pattern store' pattern' : List ℕ}
+    (made : CaseMade setting codes cap 0 0 store pattern threshold store' pattern') (high : drop_limit ≤ cap) where
   abbrev own : ℕ
-  own = own_upper file setting.hops table (sets_in setting.inputs codes)
+  own = own_upper setting.file.now setting.hops setting.table.now (sets_in setting.inputs codes)
 
   abbrev drop : ℕ
-  drop = simulated_drop file table (probe (sets_in setting.inputs codes))
+  drop = pattern_drop setting (probe (sets_in setting.inputs codes))
 
   capped : min cap own ≡ own
   capped = min-eq_right (omega (arith, made.upper_low))
@@ -67,29 +66,29 @@ module _ {file : File} {setting : Setting} (accepted : AcceptedFile file setting
   first_cases : cases_in setting.inputs store' 1 ≡ case_of setting.inputs codes own ∷ []
   unfolding cases_in list_below in_turn
   first_cases =
-      cases_appended setting.inputs accepted.few_inputs codes (codes_long accepted coded) (min cap own) 0 store store' made.stored 0 capped_low refl
+      cases_appended setting.inputs setting.accepted.few_inputs codes (codes_long setting.accepted coded) (min cap own) 0 store store' made.stored 0 capped_low refl
       ∙ ap (λ u. case_of setting.inputs codes u ∷ []) capped
 
-  of_frame : (sets : Case) → sets ≡ frame file
+  of_frame : (sets : Case) → sets ≡ frame setting.file.now
       → ◌≡◌ {A = State}
       (record {
-        cases = record { sets = sets; upper = evaluation_of (simulated_drop file table) (envelope_drop file setting.hops table) sets } ∷ [];
-        best = record { lower = simulated_drop file table (probe sets); pattern = probe sets };
+        cases = record { sets = sets; upper = evaluation_of (pattern_drop setting) (case_drop setting) sets } ∷ [];
+        best = record { lower = pattern_drop setting (probe sets); pattern = probe sets };
       })
-      (first_state (simulated_drop file table) (envelope_drop file setting.hops table) (frame file))
+      (first_state (pattern_drop setting) (case_drop setting) (frame setting.file.now))
   unfolding first_state first_best
-  of_frame sets e = ap (first_state (simulated_drop file table) (envelope_drop file setting.hops table)) e
+  of_frame sets e = ap (first_state (pattern_drop setting) (case_drop setting)) e
 
-  first_state_lem : state_in setting.inputs 1 threshold store' pattern' ≡ first_state (simulated_drop file table) (envelope_drop file setting.hops table) (frame file)
+  first_state_lem : state_in setting.inputs 1 threshold store' pattern' ≡ first_state (pattern_drop setting) (case_drop setting) (frame setting.file.now)
   unfolding state_in best_in own_upper
   first_state_lem =
       state_is first_cases (best_is (omega (arith, reached.0)) (probe_read setting.inputs codes reached.1))
-      ∙ of_frame (sets_in setting.inputs codes) (frame_sets accepted coded)
+      ∙ of_frame (sets_in setting.inputs codes) (frame_sets setting.accepted coded)
 
   first_running : length pattern ≡ 64 → 72 ≤ length store → Running setting.inputs 1 threshold store' pattern'
   first_running long room = record {
-    cases = has_appended setting.inputs accepted.few_inputs codes (codes_long accepted coded) (min cap own) 0 store store' made.stored 0
-        (frame_coded accepted coded) capped_low (no_cases setting.inputs store) refl room (omega arith);
+    cases = has_appended setting.inputs setting.accepted.few_inputs codes (codes_long setting.accepted coded) (min cap own) 0 store store' made.stored 0
+        (frame_coded setting.accepted coded) capped_low (no_cases setting.inputs store) refl room (omega arith);
     some = omega arith;
     threshold_low = omega (arith, reached.0);
     threshold_high = omega (arith, reached.0, made.drop_low);
@@ -105,5 +104,5 @@ module _ {file : File} {setting : Setting} (accepted : AcceptedFile file setting
     pattern_past = λ j h. reached.1.rest j (inr (omega arith));
   }
 
-  pub first_made : length pattern ≡ 64 → 72 ≤ length store → FirstMade file setting table store pattern threshold store' pattern'
+  pub first_made : length pattern ≡ 64 → 72 ≤ length store → FirstMade setting store pattern threshold store' pattern'
   first_made long room = record { state = first_state_lem; running = first_running long room; past = first_kept }

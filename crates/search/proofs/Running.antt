@@ -7,7 +7,6 @@ use native.Mathlib.Omega.{arith}
 use lib.ListN.{length}
 use Rattle.laws.specs.Below.{argmax}
 use Rattle.block.specs.Limits.{drop_limit}
-use Rattle.block.specs.Record.{File}
 use Rattle.std.specs.declared.option.Option.{Option}
 use Rattle.std.specs.declared.option.Option.TheVariants.{Some}
 use Rattle.operation.specs.declared.Outcome.{Outcome}
@@ -20,7 +19,7 @@ use Rattle.cases.specs.Search.{search_from}
 use Rattle.cases.proofs.Records.{next_split_lem, greatest_upper_lem}
 use Rattle.cases.proofs.Probes.{split_covered}
 use Rattle.cases.proofs.Outcomes.{stop_exact, stop_within, stop_spent, goes_on}
-use Rattle.bounds.specs.Bounds.{simulated_drop, envelope_drop}
+use Rattle.bounds.specs.Bounds.{pattern_drop, case_drop}
 use Rattle.search.specs.Steps.{Running, PastKept, CaseToSplit, CaseSplit, EndsSo, Ran, best_in, state_in}
 
 -- What is kept past some cases is kept past more, and through two steps where it is in each.
@@ -35,21 +34,21 @@ past_kept more first second = record {
 }
 
 -- Where a search stands before a split, after so many splits: what is left of it is what is left of the search from the first case on.
-pub record Reached (file : File) (setting : Setting) (table order : List ℕ) (ratio budget threshold : ℕ) (store pattern : List ℕ)
+pub record Reached (setting : Setting) (order : List ℕ) (ratio budget threshold : ℕ) (store pattern : List ℕ)
     (n best splits : ℕ) (store' pattern' : List ℕ) : Type 0 where
-  pub rest : search_from (simulated_drop file table) (envelope_drop file setting.hops table) (first_undecided order) ratio (budget - splits) splits
+  pub rest : search_from (pattern_drop setting) (case_drop setting) (first_undecided order) ratio (budget - splits) splits
       (state_in setting.inputs n best store' pattern')
-      ≡ search_from (simulated_drop file table) (envelope_drop file setting.hops table) (first_undecided order) ratio budget 0 (state_in setting.inputs 1 threshold store pattern)
+      ≡ search_from (pattern_drop setting) (case_drop setting) (first_undecided order) ratio budget 0 (state_in setting.inputs 1 threshold store pattern)
   pub running : Running setting.inputs n best store' pattern'
-  pub covered : ProbesCovered (simulated_drop file table) (state_in setting.inputs n best store' pattern')
+  pub covered : ProbesCovered (pattern_drop setting) (state_in setting.inputs n best store' pattern')
   pub past : PastKept setting.inputs n store pattern store' pattern'
   pub afforded : splits ≤ budget
   pub few : n ≤ 1 + 3 * splits
 
 -- The search begins with one case and no split.
-pub reached_first : {file : File} {setting : Setting} {table order : List ℕ} {ratio budget threshold : ℕ} {store pattern : List ℕ}
-    → Running setting.inputs 1 threshold store pattern → ProbesCovered (simulated_drop file table) (state_in setting.inputs 1 threshold store pattern)
-    → Reached file setting table order ratio budget threshold store pattern 1 threshold 0 store pattern
+pub reached_first : {setting : Setting} {order : List ℕ} {ratio budget threshold : ℕ} {store pattern : List ℕ}
+    → Running setting.inputs 1 threshold store pattern → ProbesCovered (pattern_drop setting) (state_in setting.inputs 1 threshold store pattern)
+    → Reached setting order ratio budget threshold store pattern 1 threshold 0 store pattern
 reached_first {budget = budget} running covered =
     let e : budget - 0 ≡ budget = omega arith in
     record {
@@ -62,8 +61,8 @@ reached_first {budget = budget} running covered =
     }
 
 -- The children of a split have room in the store.
-pub split_room : {file : File} {setting : Setting} {table order : List ℕ} {ratio budget threshold : ℕ} {store pattern : List ℕ} {n best splits : ℕ} {store' pattern' : List ℕ}
-    → Reached file setting table order ratio budget threshold store pattern n best splits store' pattern' → (splits ≡ budget → ⊥) → budget ≤ 10000
+pub split_room : {setting : Setting} {order : List ℕ} {ratio budget threshold : ℕ} {store pattern : List ℕ} {n best splits : ℕ} {store' pattern' : List ℕ}
+    → Reached setting order ratio budget threshold store pattern n best splits store' pattern' → (splits ≡ budget → ⊥) → budget ≤ 10000
     → 72 * (1 + 3 * budget) ≤ length store → (72 * (n + 3) ≤ length store') × (n + 3 ≤ 30001)
 split_room reached left few long =
     (omega (arith, reached.afforded, reached.few, reached.past.store_long), omega (arith, reached.afforded, reached.few))
@@ -83,16 +82,16 @@ module _ {inputs n threshold : ℕ} {store pattern : List ℕ} (running : Runnin
 
 -- A turn of the loop, by the checks before the split.
 
-module _ {file : File} {setting : Setting} {table order : List ℕ} {ratio budget threshold : ℕ} {store pattern : List ℕ} {n best splits : ℕ}
-    {store' pattern' : List ℕ} (reached : Reached file setting table order ratio budget threshold store pattern n best splits store' pattern')
+module _ {setting : Setting} {order : List ℕ} {ratio budget threshold : ℕ} {store pattern : List ℕ} {n best splits : ℕ}
+    {store' pattern' : List ℕ} (reached : Reached setting order ratio budget threshold store pattern n best splits store' pattern')
     {k upper : ℕ} (next : CaseToSplit setting.inputs n store' k upper) where
   abbrev Ends : Outcome → Type 0
   Ends outcome =
-      Ran file setting table order ratio budget (state_in setting.inputs 1 threshold store pattern) store pattern
+      Ran setting order ratio budget (state_in setting.inputs 1 threshold store pattern) store pattern
       (record { outcome = outcome; upper = upper; lower = best - 1; splits = splits; cases = n }) store' pattern'
 
   ends : (outcome : Outcome)
-      → search_from (simulated_drop file table) (envelope_drop file setting.hops table) (first_undecided order) ratio (budget - splits) splits (state_in setting.inputs n best store' pattern')
+      → search_from (pattern_drop setting) (case_drop setting) (first_undecided order) ratio (budget - splits) splits (state_in setting.inputs n best store' pattern')
       ≡ record { outcome = outcome; splits = splits; state = state_in setting.inputs n best store' pattern' }
       → Ends outcome
   unfolding state_in
@@ -133,19 +132,19 @@ module _ {file : File} {setting : Setting} {table order : List ℕ} {ratio budge
   ends_so so Spent e = let by = rw e at so in ends_spent by.0 by.1 by.2
 
   pub reached_next : {n'' best'' : ℕ} {store'' pattern'' : List ℕ} → (upper ≡ best - 1 → ⊥) → ratio * (best - 1) < 1000 * upper → (splits ≡ budget → ⊥)
-      → CaseSplit file setting table order n best store' pattern' n'' best'' store'' pattern''
-      → Reached file setting table order ratio budget threshold store pattern n'' best'' (splits + 1) store'' pattern''
+      → CaseSplit setting order n best store' pattern' n'' best'' store'' pattern''
+      → Reached setting order ratio budget threshold store pattern n'' best'' (splits + 1) store'' pattern''
   unfolding state_in best_in
   reached_next d l left case_split =
       let more : splits < budget = omega (arith, reached.afforded) in
       let e : budget - (splits + 1) ≡ budget - splits - 1 = omega arith in
       record {
         rest = rw (e, case_split.state)
-            (goes_on (simulated_drop file table) (envelope_drop file setting.hops table) (first_undecided order) ratio (state_in setting.inputs n best store' pattern')
+            (goes_on (pattern_drop setting) (case_drop setting) (first_undecided order) ratio (state_in setting.inputs n best store' pattern')
             (budget - splits) splits (omega arith) (λ q. d (next.greatest ∙ q)) (rw (← next.greatest) l) ∙ reached.rest);
         running = case_split.running;
-        covered = subst (ProbesCovered (simulated_drop file table)) (sym case_split.state)
-            (split_covered (simulated_drop file table) (envelope_drop file setting.hops table) (first_undecided order) (state_in setting.inputs n best store' pattern') reached.covered);
+        covered = subst (ProbesCovered (pattern_drop setting)) (sym case_split.state)
+            (split_covered (pattern_drop setting) (case_drop setting) (first_undecided order) (state_in setting.inputs n best store' pattern') reached.covered);
         past = past_kept case_split.more reached.past case_split.past;
         afforded = omega arith;
         few = omega (arith, case_split.few, reached.few);

@@ -1,17 +1,17 @@
 -- What the functions of the search ask and promise (for document 01, "Search"), step by step: a case made, a case split, the whole run,
 -- the sheet.
 use Rattle.std.specs.Prelude.{ℕ, ◌+◌, ◌*◌, ◌-◌, ◌≤◌, ◌<◌, max, true, false, List, ◌≡◌, length, get_or}
-use Rattle.excitation.specs.Excitation.{excitation_of, pattern_of}
+use Rattle.excitation.specs.Excitation.{pattern_of}
 use Rattle.excitation.specs.UncertaintySet.{member, decode}
+use Rattle.excitation.specs.declared.Excitation.{Excitation}
 use Rattle.block.specs.Block.{frame}
 use Rattle.block.specs.Limits.{drop_limit}
-use Rattle.block.specs.Record.{File}
 use Rattle.sheet.specs.Sheet.{sheet_words}
 use Rattle.cases.specs.Choice.{first_undecided}
 use Rattle.cases.specs.Records.{cases_in, HasCases, child_codes}
 use Rattle.cases.specs.Search.{Best, State, SearchEnd, greatest_upper, first_state, next_split, split, search_from}
 use Rattle.cases.specs.Store.{store_with, pattern_with}
-use Rattle.bounds.specs.Bounds.{simulated_drop, envelope_drop, CaseMade}
+use Rattle.bounds.specs.Bounds.{pattern_drop, case_drop, CaseMade}
 use Rattle.evaluation.specs.declared.Setting.{Setting}
 use Rattle.operation.specs.declared.Found.{Found}
 use Rattle.operation.specs.declared.Outcome.{Outcome}
@@ -46,19 +46,19 @@ pub record PastKept (inputs n : ℕ) (store pattern store' pattern' : List ℕ) 
   pub pattern_past : (j : ℕ) → inputs ≤ j → get_or pattern' j 0 ≡ get_or pattern j 0
 
 -- The first case made, the whole frame: the state of the search, and its buffers.
-pub record FirstMade (file : File) (setting : Setting) (table store pattern : List ℕ) (threshold : ℕ) (store' pattern' : List ℕ) : Type 0 where
-  pub state : state_in setting.inputs 1 threshold store' pattern' ≡ first_state (simulated_drop file table) (envelope_drop file setting.hops table) (frame file)
+pub record FirstMade (setting : Setting) (store pattern : List ℕ) (threshold : ℕ) (store' pattern' : List ℕ) : Type 0 where
+  pub state : state_in setting.inputs 1 threshold store' pattern' ≡ first_state (pattern_drop setting) (case_drop setting) (frame setting.file.now)
   pub running : Running setting.inputs 1 threshold store' pattern'
   pub past : PastKept setting.inputs 1 store pattern store' pattern'
 
--- A child made, where the parent's set at the input allows the excitation of byte e; else nothing changes. A child is put at the next
+-- A child made, where the parent's set at the input allows the excitation; else nothing changes. A child is put at the next
 -- place: the parent's for the first, past the cases for the others.
-pub record ChildMade (file : File) (setting : Setting) (table parent : List ℕ) (input e cap : ℕ) (step : Step) (store pattern : List ℕ)
+pub record ChildMade (setting : Setting) (parent : List ℕ) (input : ℕ) (e : Excitation) (cap : ℕ) (step : Step) (store pattern : List ℕ)
     (step' : Step) (store' pattern' : List ℕ) : Type 0 where
-  pub skipped : member (excitation_of e) (decode (get_or parent input 0)) ≡ false → (step' ≡ step) × (store' ≡ store) × (pattern' ≡ pattern)
-  pub made : member (excitation_of e) (decode (get_or parent input 0)) ≡ true
-      → CaseMade file setting table (child_codes parent input e) cap step.threshold step.next.0 store pattern step'.threshold store' pattern'
-  pub counted : member (excitation_of e) (decode (get_or parent input 0)) ≡ true
+  pub skipped : member e (decode (get_or parent input 0)) ≡ false → (step' ≡ step) × (store' ≡ store) × (pattern' ≡ pattern)
+  pub made : member e (decode (get_or parent input 0)) ≡ true
+      → CaseMade setting (child_codes parent input e) cap step.threshold step.next.0 store pattern step'.threshold store' pattern'
+  pub counted : member e (decode (get_or parent input 0)) ≡ true
       → (step'.cases ≡ max (step.next.0 + 1) step.cases) × (step'.next.0 ≡ step'.cases)
 
 -- The case to split: the first whose upper number is U, and U.
@@ -68,10 +68,10 @@ pub record CaseToSplit (inputs n : ℕ) (store : List ℕ) (k upper : ℕ) : Typ
   pub greatest : upper ≡ greatest_upper (cases_in inputs store n)
 
 -- A case split.
-pub record CaseSplit (file : File) (setting : Setting) (table order : List ℕ) (n threshold : ℕ) (store pattern : List ℕ)
+pub record CaseSplit (setting : Setting) (order : List ℕ) (n threshold : ℕ) (store pattern : List ℕ)
     (n' threshold' : ℕ) (store' pattern' : List ℕ) : Type 0 where
   pub state : state_in setting.inputs n' threshold' store' pattern'
-      ≡ split (simulated_drop file table) (envelope_drop file setting.hops table) (first_undecided order) (state_in setting.inputs n threshold store pattern)
+      ≡ split (pattern_drop setting) (case_drop setting) (first_undecided order) (state_in setting.inputs n threshold store pattern)
   pub running : Running setting.inputs n' threshold' store' pattern'
   pub more : n ≤ n'
   pub few : n' ≤ n + 3
@@ -85,16 +85,31 @@ EndsSo upper lower ratio splits budget (Some Spent) = (upper ≡ lower → ⊥) 
 EndsSo upper lower ratio splits budget None = (upper ≡ lower → ⊥) × (ratio * lower < 1000 * upper) × (splits ≡ budget → ⊥)
 
 -- A run of the search from a state on, to its end.
-pub record Ran (file : File) (setting : Setting) (table order : List ℕ) (ratio budget : ℕ) (start : State) (store pattern : List ℕ)
+pub record Ran (setting : Setting) (order : List ℕ) (ratio budget : ℕ) (start : State) (store pattern : List ℕ)
     (ended : RunEnd) (store' pattern' : List ℕ) : Type 0 where
   pub end : SearchEnd
-  pub is : end ≡ search_from (simulated_drop file table) (envelope_drop file setting.hops table) (first_undecided order) ratio budget 0 start
+  pub is : end ≡ search_from (pattern_drop setting) (case_drop setting) (first_undecided order) ratio budget 0 start
   pub outcome : ended.outcome ≡ end.outcome
   pub upper : ended.upper ≡ greatest_upper end.state.cases
   pub splits : ended.splits ≡ end.splits
   pub state : state_in setting.inputs ended.cases (ended.lower + 1) store' pattern' ≡ end.state
   pub running : Running setting.inputs ended.cases (ended.lower + 1) store' pattern'
   pub past : PastKept setting.inputs ended.cases store pattern store' pattern'
+
+-- The arguments of a call that searches under a setting, as they are lent.
+abbrev pub arguments_of : Setting → ℕ → ℕ → List ℕ → List ℕ → List ℕ → List ℕ → List ℕ → SearchArguments
+arguments_of setting ratio budget order sheet pattern work store = record {
+  file = setting.file.now;
+  hops = setting.hops;
+  table = setting.table.now;
+  ratio = ratio;
+  budget = budget;
+  order = order;
+  sheet = sheet;
+  pattern = pattern;
+  work = work;
+  store = store;
+}
 
 -- An accepted call's answer and buffers.
 pub record BlockSearched (given : SearchArguments) (found : Found) (sheet' pattern' store' : List ℕ) : Type 0 where

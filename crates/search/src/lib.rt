@@ -5,7 +5,7 @@ ghost use Rattle.std.specs.Prelude.{◌≡◌, ◌+◌, ◌*◌, ◌≤◌, leng
 ghost use Rattle.operation.specs.SplitOrder.{NetsListed};
 ghost use Rattle.evaluation.specs.Evaluation.{Evaluable};
 ghost use Rattle.search.specs.Search.{Searched};
-ghost use Rattle.search.specs.Steps.{FirstMade, BlockSearched};
+ghost use Rattle.search.specs.Steps.{FirstMade, arguments_of, BlockSearched};
 
 use block::{Counts, Refusal};
 use bounds::{draw, make};
@@ -24,23 +24,19 @@ const NO_CAP: u64 = u64::MAX;
 
 // Makes the first case, the whole frame. Returns the drop that the next probe has to reach.
 fn make_first(
-    file: &[u8],
-    setting: Setting,
-    table: &[u16],
+    setting: Setting<'_>,
     sheet: &mut [Word],
     pattern: &mut [u8],
     work: &mut [u8],
     store: &mut [u8],
 ) -> u64
-    requires { Evaluable file.now setting sheet.old work.old × (length pattern.old ≡ 64) × (72 ≤ length store.old) }
-    ensures { FirstMade file.now setting table.now store.old pattern.old result store.new pattern.new }
+    requires { Evaluable setting sheet.old work.old × (length pattern.old ≡ 64) × (72 ≤ length store.old) }
+    ensures { FirstMade setting.entry store.old pattern.old result store.new pattern.new }
 {
     let mut codes = [0u8; 64];
-    block::frame_codes(file, setting.inputs, &mut codes);
+    block::frame_codes(setting.file, setting.inputs, &mut codes);
     make::make_case(
-        file,
         setting,
-        table,
         &codes,
         NO_CAP,
         0,
@@ -53,12 +49,10 @@ fn make_first(
 }
 
 // Searches an accepted file, with arguments that passed.
-// Form kept: the C interface lends sheet, pattern, work buffer and store one by one, and `evaluation::evaluate`, whose clause may not
-// change, takes sheet and work so.
+// Form kept: the C interface lends sheet, pattern, work buffer and store one by one, and each function below takes those alone that it
+// writes, so that its contract says of the others that they stay.
 fn search_block(
-    file: &[u8],
-    setting: Setting,
-    table: &[u16],
+    setting: Setting<'_>,
     limits: Limits,
     order: &[u8],
     sheet: &mut [Word],
@@ -66,14 +60,14 @@ fn search_block(
     work: &mut [u8],
     store: &mut [u8],
 ) -> Found
-    requires { Evaluable file.now setting sheet.old work.old × (length pattern.old ≡ 64) × NetsListed setting.inputs order.now × (limits.ratio ≤ 10000) × (limits.budget ≤ 10000) × (72 * (1 + 3 * limits.budget) ≤ length store.old) }
-    ensures { BlockSearched (record { file = file.now; hops = setting.hops; table = table.now; ratio = limits.ratio; budget = limits.budget; order = order.now; sheet = sheet.old; pattern = pattern.old; work = work.old; store = store.old }) result sheet.new pattern.new store.new }
+    requires { Evaluable setting sheet.old work.old × (length pattern.old ≡ 64) × NetsListed setting.inputs order.now × (72 * (1 + 3 * limits.budget) ≤ length store.old) }
+    ensures { BlockSearched (arguments_of setting.entry limits.ratio limits.budget order.now sheet.old pattern.old work.old store.old) result sheet.new pattern.new store.new }
 {
-    let threshold = make_first(file, setting, table, sheet, pattern, work, store);
+    let threshold = make_first(setting, sheet, pattern, work, store);
     let ended = run::run(
-        file, setting, table, order, limits, threshold, sheet, pattern, work, store,
+        setting, order, limits, threshold, sheet, pattern, work, store,
     );
-    draw::draw_cases(file, setting, table, store, ended.cases, sheet, work);
+    draw::draw_cases(setting, store, ended.cases, sheet, work);
     let quiet = sheet::quiet_tick(sheet, 512);
     let outcome = ended.outcome;
     Found {
@@ -116,12 +110,12 @@ pub fn search(
         store.len(),
     )?;
     let setting = Setting {
+        file,
+        table,
         nets,
         inputs,
         hops: hops as usize,
     };
     let limits = Limits { ratio, budget };
-    Ok(search_block(
-        file, setting, table, limits, order, sheet, pattern, work, store,
-    ))
+    Ok(search_block(setting, limits, order, sheet, pattern, work, store))
 }

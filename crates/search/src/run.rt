@@ -4,7 +4,7 @@ ghost use Rattle.block.specs.Limits.{drop_limit};
 ghost use Rattle.operation.specs.SplitOrder.{NetsListed};
 ghost use Rattle.cases.specs.Probes.{ProbesCovered};
 ghost use Rattle.evaluation.specs.Evaluation.{Evaluable};
-ghost use Rattle.bounds.specs.Bounds.{simulated_drop};
+ghost use Rattle.bounds.specs.Bounds.{pattern_drop};
 ghost use Rattle.search.specs.Steps.{Running, state_in, EndsSo, Ran};
 
 use super::split;
@@ -28,12 +28,14 @@ pub struct RunEnd {
 pub struct Limits {
     pub ratio: u64,
     pub budget: u64,
+    pub ghost ratio_high: { ratio ≤ 10000 },
+    pub ghost budget_high: { budget ≤ 10000 },
 }
 
 impl Limits {
     // The checks before a split, in order: how the run ends here, if it does.
     fn end_before_split(self, upper: u64, lower: u64, splits: u64) -> Option<Outcome>
-        requires { (upper < drop_limit) × (lower < drop_limit) × (self.ratio ≤ 10000) }
+        requires { (upper < drop_limit) × (lower < drop_limit) }
         ensures { EndsSo upper lower self.ratio splits self.budget result }
     {
         if upper == lower {
@@ -51,9 +53,7 @@ impl Limits {
 
 // Runs the search from the first case on.
 pub fn run(
-    file: &[u8],
-    setting: Setting,
-    table: &[u16],
+    setting: Setting<'_>,
     order: &[u8],
     limits: Limits,
     threshold: u64,
@@ -62,8 +62,8 @@ pub fn run(
     work: &mut [u8],
     store: &mut [u8],
 ) -> RunEnd
-    requires { Evaluable file.now setting sheet.old work.old × Running setting.inputs 1 threshold store.old pattern.old × NetsListed setting.inputs order.now × (limits.ratio ≤ 10000) × (limits.budget ≤ 10000) × (72 * (1 + 3 * limits.budget) ≤ length store.old) × ProbesCovered (simulated_drop file.now table.now) (state_in setting.inputs 1 threshold store.old pattern.old) }
-    ensures { Ran file.now setting table.now order.now limits.ratio limits.budget (state_in setting.inputs 1 threshold store.old pattern.old) store.old pattern.old result store.new pattern.new }
+    requires { Evaluable setting sheet.old work.old × Running setting.inputs 1 threshold store.old pattern.old × NetsListed setting.inputs order.now × (72 * (1 + 3 * limits.budget) ≤ length store.old) × ProbesCovered (pattern_drop setting) (state_in setting.inputs 1 threshold store.old pattern.old) }
+    ensures { Ran setting.entry order.now limits.ratio limits.budget (state_in setting.entry.inputs 1 threshold store.old pattern.old) store.old pattern.old result store.new pattern.new }
 {
     let mut cases: usize = 1;
     let mut best = threshold;
@@ -83,7 +83,7 @@ pub fn run(
             };
         }
         let step = split::split(
-            file, setting, table, order, k, upper, cases, best, sheet, pattern, work, store,
+            setting, order, k, upper, cases, best, sheet, pattern, work, store,
         );
         cases = step.cases;
         best = step.threshold;

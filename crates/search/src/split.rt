@@ -5,7 +5,7 @@ ghost use Rattle.operation.specs.SplitOrder.{NetsListed};
 ghost use Rattle.cases.specs.Probes.{ProbesCovered};
 ghost use Rattle.cases.specs.Records.{HasCase, SetCodes};
 ghost use Rattle.evaluation.specs.Evaluation.{Evaluable};
-ghost use Rattle.bounds.specs.Bounds.{simulated_drop, probe_drop};
+ghost use Rattle.bounds.specs.Bounds.{pattern_drop, probe_drop};
 ghost use Rattle.search.specs.Steps.{state_in, ChildMade, Running, CaseToSplit, CaseSplit};
 
 use block::Net;
@@ -38,15 +38,13 @@ impl Step {
     }
 }
 
-// Makes the child whose input has the excitation of byte e, where the parent's set allows it. The child of the first allowed has its
+// Makes the child whose input has an excitation, where the parent's set allows it. The child of the first allowed has its
 // parent's probe, whose drop is known to be below the threshold.
 fn make_child(
-    file: &[u8],
-    setting: Setting,
-    table: &[u16],
-    parent: &[u8],
+    setting: Setting<'_>,
+    parent: &[u8; 64],
     input: Net,
-    e: u8,
+    e: Excitation,
     cap: u64,
     step: Step,
     sheet: &mut [Word],
@@ -54,27 +52,23 @@ fn make_child(
     work: &mut [u8],
     store: &mut [u8],
 ) -> Step
-    requires { Evaluable file.now setting sheet.old work.old × (length parent.now ≡ 64) × SetCodes setting.inputs parent.now × (input.0 < setting.inputs) × (e < 4) × (length pattern.old ≡ 64) × HasCase store.old step.next.0 × (step.threshold ≤ drop_limit) × (probe_drop file.now setting table.now parent.now < step.threshold) }
-    ensures { ChildMade file.now setting table.now parent.now input.0 e cap step store.old pattern.old result store.new pattern.new }
+    requires { Evaluable setting sheet.old work.old × SetCodes setting.inputs parent.now × (input.0 < setting.inputs) × (length pattern.old ≡ 64) × HasCase store.old step.next.0 × (step.threshold ≤ drop_limit) × (probe_drop setting parent.now < step.threshold) }
+    ensures { ChildMade setting.entry parent.now input.0 e cap step store.old pattern.old result store.new pattern.new }
 {
     let net = input.0;
     let code = parent[net];
     let set = Set { code };
-    if !set.contains(Excitation::from(e)) {
+    if !set.contains(e) {
         return step;
     }
     let codes = sets::child_codes(parent, input, e);
-    let known = e == sets::first_allowed(code);
+    let known = sets::is_first_allowed(code, e);
     if known {
-        make::bound_case(
-            file, setting, table, &codes, cap, step.next, sheet, work, store,
-        );
+        make::bound_case(setting, &codes, cap, step.next, sheet, work, store);
         return step.child_made(step.threshold);
     }
     let threshold = make::make_case(
-        file,
         setting,
-        table,
         &codes,
         cap,
         step.threshold,
@@ -89,9 +83,7 @@ fn make_child(
 
 // Splits case k, the first of the greatest upper number, which is the cap of its children.
 pub fn split(
-    file: &[u8],
-    setting: Setting,
-    table: &[u16],
+    setting: Setting<'_>,
     order: &[u8],
     k: CaseNumber,
     cap: u64,
@@ -102,20 +94,19 @@ pub fn split(
     work: &mut [u8],
     store: &mut [u8],
 ) -> Step
-    requires { Evaluable file.now setting sheet.old work.old × Running setting.inputs n threshold store.old pattern.old × CaseToSplit setting.inputs n store.old k.0 cap × NetsListed setting.inputs order.now × (72 * (n + 3) ≤ length store.old) × (n + 3 ≤ 30001) × ProbesCovered (simulated_drop file.now table.now) (state_in setting.inputs n threshold store.old pattern.old) }
-    ensures { CaseSplit file.now setting table.now order.now n threshold store.old pattern.old result.cases result.threshold store.new pattern.new }
+    requires { Evaluable setting sheet.old work.old × Running setting.inputs n threshold store.old pattern.old × CaseToSplit setting.inputs n store.old k.0 cap × NetsListed setting.inputs order.now × (72 * (n + 3) ≤ length store.old) × (n + 3 ≤ 30001) × ProbesCovered (pattern_drop setting) (state_in setting.inputs n threshold store.old pattern.old) }
+    ensures { CaseSplit setting.entry order.now n threshold store.old pattern.old result.cases result.threshold store.new pattern.new }
 {
-    let mut parent = [0u8; 64];
-    store::read_sets(store, k, &mut parent);
+    let parent = store::read_sets(store, k);
     let input = choice::choose(&parent, setting.inputs, order);
     let mut step = Step {
         cases: n,
         next: k,
         threshold,
     };
-    for e in 0..4 {
+    for e in sets::EXCITATIONS {
         step = make_child(
-            file, setting, table, &parent, input, e, cap, step, sheet, pattern, work, store,
+            setting, &parent, input, e, cap, step, sheet, pattern, work, store,
         );
     }
     step

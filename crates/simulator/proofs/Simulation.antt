@@ -3,7 +3,6 @@
 use Prim.Native.Nat.{ℕ, suc, ◌≤◌, ◌<◌}
 use mathlib.Core.List.{List, [], ◌∷◌, map}
 use mathlib.Core.Path.{◌≡◌, refl, ap, sym, subst, ◌∙◌}
-use native.Mathlib.Omega.{arith}
 use lib.ListN.{get_or}
 use Rattle.laws.proofs.Turn.{list_map, list_same}
 use Rattle.excitation.specs.Excitation.{same, hl, lh, excitation_of, pattern_of}
@@ -11,7 +10,6 @@ use Rattle.excitation.specs.UncertaintySet.{member, decode, empty, single, sets_
 use Rattle.excitation.specs.declared.Excitation.{Excitation}
 use Rattle.excitation.proofs.Codes.{code_below, decode_code}
 use Rattle.excitation.proofs.OneMember.{member_single}
-use Rattle.block.specs.Accepted.{AcceptedFile}
 use Rattle.block.specs.Record.{File, net_count}
 use Rattle.waveform.specs.Waveform.{Waveform, simulation, envelope, waveforms}
 use Rattle.waveform.proofs.Singles.{singles, waveforms_single}
@@ -39,19 +37,17 @@ sheet_single hops file pattern enough =
     ∙ transitions_single hops (waveforms simulation file pattern (net_count file)))
 
 -- An evaluation of single sets, with nothing filled.
-pub singles_evaluated : (file : File) {table words : List ℕ} {answer : Currents} (setting : Setting) (codes : List ℕ) (hops : ℕ) → 128 ≤ hops
-    → Evaluated table (envelope_sheet hops file (sets_in setting.inputs codes)) answer words
-    → SinglesEvaluated file setting codes table answer words
-singles_evaluated file {table} {words} {answer} setting codes hops enough e pattern are =
-    subst (λ sheet. Evaluated table sheet answer words) (ap (envelope_sheet hops file) are ∙ sheet_single hops file pattern enough) e
+pub singles_evaluated : {words : List ℕ} {answer : Currents} (setting : Setting) (codes : List ℕ) (hops : ℕ) → 128 ≤ hops
+    → Evaluated setting.table.now (envelope_sheet hops setting.file.now (sets_in setting.inputs codes)) answer words
+    → SinglesEvaluated setting codes answer words
+singles_evaluated {words} {answer} setting codes hops enough e pattern are =
+    let file = setting.file.now in
+    subst (λ sheet. Evaluated setting.table.now sheet answer words) (ap (envelope_sheet hops file) are ∙ sheet_single hops file pattern enough) e
 
 -- The codes of a pattern: their sets have its excitations as their one members.
 module _ {inputs : ℕ} {pattern codes : List ℕ} (coded : PatternCodes inputs pattern codes) where
-  pub pattern_codes : inputs ≤ 64 → InputCodes inputs codes
-  pattern_codes few = record {
-    enough = omega (arith, coded.long);
-    low = λ net h. subst (λ x. x < 16) (sym (coded.at net h)) (code_below _);
-  }
+  pub pattern_codes : InputCodes inputs codes
+  pattern_codes net h = subst (λ x. x < 16) (sym (coded.at net h)) (code_below _)
 
   pub pattern_sets : sets_in inputs codes ≡ map single (pattern_of inputs pattern)
   unfolding sets_in pattern_of
@@ -61,9 +57,9 @@ module _ {inputs : ℕ} {pattern codes : List ℕ} (coded : PatternCodes inputs 
       ∙ sym (list_map single inputs (λ net. excitation_of (get_or pattern net 0)))
 
 -- A pattern is simulated by its codes.
-pub pattern_evaluated : {file : File} {table words : List ℕ} {answer : Currents} (setting : Setting) {pattern codes : List ℕ}
-    → AcceptedFile file setting.nets setting.inputs → PatternCodes setting.inputs pattern codes
-    → SinglesEvaluated file setting codes table answer words → Evaluated table (pattern_sheet file pattern) answer words
-pattern_evaluated {file} {table} {words} {answer} setting {pattern} accepted coded e =
-    subst (λ n. Evaluated table (simulated_sheet file (pattern_of n pattern)) answer words) (sym accepted.input_count_lem)
-    (e _ (pattern_sets coded))
+pub pattern_evaluated : {words : List ℕ} {answer : Currents} (setting : Setting) {pattern codes : List ℕ}
+    → PatternCodes setting.inputs pattern codes → SinglesEvaluated setting codes answer words
+    → Evaluated setting.table.now (pattern_sheet setting.file.now pattern) answer words
+pattern_evaluated {words} {answer} setting {pattern} coded e =
+    subst (λ n. Evaluated setting.table.now (simulated_sheet setting.file.now (pattern_of n pattern)) answer words)
+    (sym setting.accepted.input_count_lem) (e _ (pattern_sets coded))

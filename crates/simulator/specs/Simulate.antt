@@ -60,10 +60,10 @@ pub record Simulated (given : SimulateArguments) (answer : Result Currents Refus
 
 -- The codes of the sets whose one member is the pattern's excitation.
 pub record PatternCodes (inputs : ℕ) (pattern codes : List ℕ) : Type 0 where
-  pub long : length codes ≡ 64
   pub at : (net : ℕ) → net < inputs → get_or codes net 0 ≡ code (single (excitation_of (get_or pattern net 0)))
 
 -- A simulation of whichever pattern has the codes' sets as its single sets.
-abbrev pub SinglesEvaluated : File → Setting → List ℕ → List ℕ → Currents → List ℕ → Type 0
-SinglesEvaluated file setting codes table answer words =
-    (pattern : List Excitation) → sets_in setting.inputs codes ≡ map single pattern → Evaluated table (simulated_sheet file pattern) answer words
+abbrev pub SinglesEvaluated : Setting → List ℕ → Currents → List ℕ → Type 0
+SinglesEvaluated setting codes answer words =
+    (pattern : List Excitation) → sets_in setting.inputs codes ≡ map single pattern
+    → Evaluated setting.table.now (simulated_sheet setting.file.now pattern) answer words

@@ -33,51 +33,50 @@ fn check_sizes(
 }
 
 // The codes of a pattern's excitations as sets.
-fn pattern_codes(pattern: &[u8], inputs: usize, codes: &mut [u8])
-    requires { (inputs ≤ 64) × (length pattern.now ≡ 64) × (length codes.old ≡ 64) }
-    ensures { PatternCodes inputs pattern.now codes.new }
+fn pattern_codes(pattern: &[u8], inputs: usize) -> [u8; 64]
+    requires { (inputs ≤ 64) × (length pattern.now ≡ 64) }
+    ensures { PatternCodes inputs pattern.now result }
 {
+    let mut codes = [0u8; 64];
     for net in 0..inputs {
         codes[net] = excitation::single(Excitation::from(pattern[net])).code;
     }
+    codes
 }
 
-// The simulation of an accepted file's pattern, given by the codes of its single sets: its sheet, drop and quiet tick. The setting's hop
-// limit is not looked at.
+// The simulation of a block's pattern, given by the codes of its single sets: its sheet, drop and quiet tick. The setting's hop limit is
+// not looked at.
 pub fn evaluate_singles(
-    file: &[u8],
-    setting: Setting,
-    codes: &[u8],
-    table: &[u16],
+    setting: Setting<'_>,
+    codes: &[u8; 64],
     sheet: &mut [Word],
     work: &mut [u8],
 ) -> Currents
-    requires { Evaluable file.now setting sheet.old work.old × InputCodes setting.inputs codes.now }
-    ensures { SinglesEvaluated file.now setting codes.now table.now result sheet.new }
+    requires { Evaluable setting sheet.old work.old × InputCodes setting.inputs codes.now }
+    ensures { SinglesEvaluated setting.entry codes.now result sheet.new }
 {
     let unfilled = Setting {
+        file: setting.file,
+        table: setting.table,
         nets: setting.nets,
         inputs: setting.inputs,
         hops: UNLIMITED,
     };
-    evaluation::evaluate(file, unfilled, codes, table, sheet, work)
+    unfilled.evaluate(codes, sheet, work)
 }
 
-// The simulation of an accepted file's pattern.
+// The simulation of a block's pattern.
 fn evaluate_pattern(
-    file: &[u8],
-    setting: Setting,
-    table: &[u16],
+    setting: Setting<'_>,
     sheet: &mut [Word],
     pattern: &[u8],
     work: &mut [u8],
 ) -> Currents
-    requires { Evaluable file.now setting sheet.old work.old × (length pattern.now ≡ 64) }
-    ensures { Evaluated table.now (pattern_sheet file.now pattern.now) result sheet.new }
+    requires { Evaluable setting sheet.old work.old × (length pattern.now ≡ 64) }
+    ensures { Evaluated setting.entry.table.now (pattern_sheet setting.entry.file.now pattern.now) result sheet.new }
 {
-    let mut codes = [0u8; 64];
-    pattern_codes(pattern, setting.inputs, &mut codes);
-    evaluate_singles(file, setting, &codes, table, sheet, work)
+    let codes = pattern_codes(pattern, setting.inputs);
+    evaluate_singles(setting, &codes, sheet, work)
 }
 
 // Simulate: the checks in order, then the sheet, drop and quiet tick of the pattern.
@@ -94,9 +93,11 @@ pub fn simulate(
     check_sizes(nets, table.len(), sheet.len(), pattern.len(), work.len())?;
     pattern::check_pattern(file, inputs, pattern)?;
     let setting = Setting {
+        file,
+        table,
         nets,
         inputs,
         hops: UNLIMITED,
     };
-    Ok(evaluate_pattern(file, setting, table, sheet, pattern, work))
+    Ok(evaluate_pattern(setting, sheet, pattern, work))
 }

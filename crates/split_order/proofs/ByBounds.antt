@@ -5,7 +5,7 @@ use Rattle.std.specs.Prelude.{Result, Ok, Err}
 use Rattle.block.specs.Verdict.{Verdict, Accepted}
 use Rattle.block.specs.declared.Counts.{Counts}
 use Prim.Native.Nat.{ℕ, ◌*◌, ◌≤◌}
-use mathlib.Core.List.{List, [], ◌++◌}
+use mathlib.Core.List.{List, ◌++◌}
 use mathlib.Core.Path.{◌≡◌, refl, ap, sym, ◌∙◌}
 use lib.ListN.{length}
 use borrow.Author.Tests.{leb-true}
@@ -33,14 +33,16 @@ use Rattle.split_order.specs.declared.key.Four.{Four}
 use Rattle.split_order.specs.Trying.{tighter_in}
 
 -- The list by the numbers is the list by bounds.
-pub listed_by_bounds : (file : File) (setting : Setting) (table codes : List ℕ) (keys : List Four) {bytes : List ℕ} → sets_in setting.inputs codes ≡ frame file
-    → SortsBy (tighter_in file setting table codes) setting.inputs keys → bytes ≡ list_bytes (in_order (smaller keys) setting.inputs)
-    → bytes ≡ list_bytes (frame_order file setting.hops table)
+pub listed_by_bounds : (setting : Setting) (codes : List ℕ) (keys : List Four) {bytes : List ℕ} → sets_in setting.inputs codes ≡ frame setting.file.now
+    → SortsBy (tighter_in setting codes) setting.inputs keys → bytes ≡ list_bytes (in_order (smaller keys) setting.inputs)
+    → bytes ≡ list_bytes (frame_order setting.file.now setting.hops setting.table.now)
 unfolding frame_order bound_order
-listed_by_bounds file setting table codes keys is sorts made =
+listed_by_bounds setting codes keys is sorts made =
+    let file = setting.file.now in
+    let table = setting.table.now in
     made
-    ∙ ap list_bytes (order_same (smaller keys) (tighter_in file setting table codes) setting.inputs sorts.same)
-    ∙ ap (λ n. list_bytes (in_order (tighter_in file setting table codes) n)) (sym (sets_long setting.inputs codes))
+    ∙ ap list_bytes (order_same (smaller keys) (tighter_in setting codes) setting.inputs sorts.same)
+    ∙ ap (λ n. list_bytes (in_order (tighter_in setting codes) n)) (sym (sets_long setting.inputs codes))
     ∙ ap (λ sets. list_bytes (in_order (tighter (simulated_drop file table) (envelope_drop file setting.hops table) sets) (length sets))) is
 
 frame_order_long : (file : File) (hops : ℕ) (table : List ℕ) → length (frame_order file hops table) ≡ input_count file

@@ -18,8 +18,6 @@ use Rattle.excitation.specs.UncertaintySet.{member, empty, decode, single, sets_
 use Rattle.excitation.specs.declared.Excitation.{Excitation}
 use Rattle.excitation.proofs.Codes.{set_at}
 use Rattle.block.specs.Limits.{drop_limit}
-use Rattle.block.specs.Record.{File}
-use Rattle.evaluation.specs.Evaluation.{Evaluable}
 use Rattle.evaluation.specs.declared.Setting.{Setting}
 use Rattle.cases.specs.Case.{Case, undecided, children_below, members_below}
 use Rattle.cases.specs.Records.{child_codes}
@@ -27,21 +25,11 @@ use Rattle.cases.specs.Search.{made_under}
 use Rattle.cases.specs.SplitOrder.{put_falling, falling_with, four, lex_below, child_upper, tried_uppers, tighter}
 use Rattle.cases.proofs.Children.{child_sets, children_more, children_same, children_few}
 use Rattle.cases.proofs.Fours.{four_more}
-use Rattle.bounds.specs.Bounds.{simulated_drop, envelope_drop, own_upper, upper_of, CaseEvaluated}
+use Rattle.bounds.specs.Bounds.{pattern_drop, case_drop, own_upper, upper_of, CaseEvaluated}
 use Rattle.split_order.specs.Sorting.{four_of, four_at, smaller, KeysMade, SortsBy}
-use Rattle.split_order.specs.Trying.{Triable, decided_key, UntriedKey, uppers_below, TriedBelow, TriedKey, tighter_in}
+use Rattle.split_order.specs.Trying.{decided_key, UntriedKey, uppers_below, TriedBelow, TriedKey, tighter_in}
 use Rattle.split_order.specs.declared.key.Four.{Four}
 use Rattle.split_order.proofs.Keys.{lex_same, lex_ahead, lex_behind}
-
--- What trying is given, with a sheet.
-pub triable : {file : File} {setting : Setting} {work sheet work' : List ℕ} → Triable file setting work → length sheet ≡ 8192 → length work' ≡ length work
-    → Evaluable file setting sheet work'
-triable ready long same = record {
-  accepted = ready.accepted;
-  some_hops = ready.some_hops;
-  sheet_long = long;
-  rows = record { whole = omega (arith, ready.rows.whole); numbered = ready.rows.numbered };
-}
 
 -- The undecided inputs counted, by their codes and by their numbers.
 counted_below : (p : ℕ → Bool) (codes : List ℕ) (n : ℕ) → n ≤ length codes → count_by p (take n codes) ≡ count_below n (λ net. p (get_or codes net 0))
@@ -55,41 +43,42 @@ counted_below p codes (suc n) h =
 
 -- One child more
 
-module _ (file : File) (setting : Setting) (table codes : List ℕ) (input : ℕ) where
+module _ (setting : Setting) (codes : List ℕ) (input : ℕ) where
   abbrev frame : Case
   frame = sets_in setting.inputs codes
 
   abbrev upper : Case → ℕ
-  upper = child_upper (simulated_drop file table) (envelope_drop file setting.hops table) frame
+  upper = child_upper (pattern_drop setting) (case_drop setting) frame
 
-  pub tried_none : TriedBelow file setting table codes input 0 (record { first = 0; second = 0; third = 0; fourth = 0 })
+  pub tried_none : TriedBelow setting codes input 0 (record { first = 0; second = 0; third = 0; fourth = 0 })
   unfolding children_below members_below four falling_with
   tried_none = record { is = refl; low = omega arith }
 
   module _ (inside : input < setting.inputs) (e : ℕ) {x : Excitation} {allowed : Bool} (is : x ≡ excitation_of e)
-      (tested : allowed ≡ member x (decode (get_or codes input 0))) {tried : Four} (so_far : TriedBelow file setting table codes input e tried) where
+      (tested : allowed ≡ member x (decode (get_or codes input 0))) {tried : Four} (so_far : TriedBelow setting codes input e tried) where
     allowed_is : allowed ≡ member (excitation_of e) (get_or frame input empty)
     allowed_is = tested ∙ rw (is, set_at setting.inputs codes input empty inside) refl
 
-    pub tried_skipped : not allowed ≡ true → TriedBelow file setting table codes input (e + 1) tried
+    pub tried_skipped : not allowed ≡ true → TriedBelow setting codes input (e + 1) tried
     tried_skipped h = record {
       is = so_far.is ∙ ap (λ new. four (map upper new)) (sym (children_same e input frame (refuted allowed_is h)));
       low = so_far.low;
     }
 
-    pub tried_more : setting.inputs ≤ 64 → length codes ≡ 64 → e < 4 → not allowed ≡ false → {child sheet : List ℕ} {cap own number : ℕ} {after : Four}
-        → child ≡ child_codes codes input e → cap ≡ upper_of file setting table codes → CaseEvaluated file setting table child own sheet
+    pub tried_more : length codes ≡ 64 → e < 4 → not allowed ≡ false → {child sheet : List ℕ} {cap own number : ℕ} {after : Four}
+        → child ≡ child_codes codes input x → cap ≡ upper_of setting codes → CaseEvaluated setting child own sheet
         → number ≡ min cap own → four_of after ≡ take 4 (put_falling number (four_of tried))
-        → TriedBelow file setting table codes input (e + 1) after
+        → TriedBelow setting codes input (e + 1) after
     unfolding child_upper made_under own_upper put_falling
-    tried_more few long low h {child} {sheet} {cap} {own} {number} {after} coded capped evaluated least put =
+    tried_more long low h {child} {sheet} {cap} {own} {number} {after} coded capped evaluated least put =
         let new = children_below e input frame in
         let more = children_more e input frame (confirmed allowed_is h) in
         let sets : sets_in setting.inputs child ≡ set frame input (single (excitation_of e)) =
-        ap (sets_in setting.inputs) coded ∙ child_sets setting.inputs few codes long input inside e in
+        ap (sets_in setting.inputs) coded ∙ child_sets setting.inputs setting.accepted.few_inputs codes long input inside x
+        ∙ ap (λ y. set frame input (single y)) is in
         let number_is : number ≡ upper (set frame input (single (excitation_of e))) =
         least ∙ ap (λ n. min n own) capped
-        ∙ ap (min (own_upper file setting.hops table frame)) (evaluated.is ∙ ap (own_upper file setting.hops table) sets) in
+        ∙ ap (min (own_upper setting.file.now setting.hops setting.table.now frame)) (evaluated.is ∙ ap (own_upper setting.file.now setting.hops setting.table.now) sets) in
         let fewer : length (map upper new) < 4 = omega (arith, length-map new upper, children_few e input frame) in
         let first : after.first ≡ max number tried.first = ap (λ xs. get_or xs 0 0) put in
         record {
@@ -105,14 +94,14 @@ module _ (file : File) (setting : Setting) (table codes : List ℕ) (input : ℕ
   -- The four numbers of an input that is tried, and of one that is not.
 
   pub tried_key : {e : ℕ} {tried : Four} → e ≡ 4 → {test : Bool} → test ≡ undecided (decode (get_or codes input 0)) → not test ≡ false
-      → TriedBelow file setting table codes input e tried → TriedKey file setting table codes input (four_of tried)
+      → TriedBelow setting codes input e tried → TriedKey setting codes input (four_of tried)
   unfolding tried_uppers
   tried_key {e} {tried} end test h all = record {
-    undecided_is = λ u. (subst (λ n. four_of tried ≡ four (uppers_below file setting table codes input n)) end all.is, all.low);
+    undecided_is = λ u. (subst (λ n. four_of tried ≡ four (uppers_below setting codes input n)) end all.is, all.low);
     decided_is = λ u. absurd (let yes = confirmed test h in false≢true (sym u ∙ yes));
   }
 
-  pub decided_key_lem : {test : Bool} → test ≡ undecided (decode (get_or codes input 0)) → not test ≡ true → TriedKey file setting table codes input decided_key
+  pub decided_key_lem : {test : Bool} → test ≡ undecided (decode (get_or codes input 0)) → not test ≡ true → TriedKey setting codes input decided_key
   decided_key_lem test h = record {
     undecided_is = λ u. absurd (let no = refuted test h in false≢true (sym no ∙ u));
     decided_is = λ u. refl;
@@ -120,15 +109,15 @@ module _ (file : File) (setting : Setting) (table codes : List ℕ) (input : ℕ
 
 -- What the numbers sort by
 
-module _ (file : File) (setting : Setting) (table codes : List ℕ) where
+module _ (setting : Setting) (codes : List ℕ) where
   abbrev undecided_at : ℕ → Bool
   undecided_at net = undecided (decode (get_or codes net 0))
 
   abbrev tried_at : ℕ → List ℕ
-  tried_at = tried_uppers (simulated_drop file table) (envelope_drop file setting.hops table) (sets_in setting.inputs codes)
+  tried_at = tried_uppers (pattern_drop setting) (case_drop setting) (sets_in setting.inputs codes)
 
   tighter_is : (a b : ℕ) → a < setting.inputs → b < setting.inputs
-      → tighter_in file setting table codes a b ≡ (undecided_at a && (not (undecided_at b) || lex_below (tried_at a) (tried_at b)))
+      → tighter_in setting codes a b ≡ (undecided_at a && (not (undecided_at b) || lex_below (tried_at a) (tried_at b)))
   unfolding tighter
   tighter_is a b h l = rw (set_at setting.inputs codes a empty h, set_at setting.inputs codes b empty l) refl
 
@@ -148,7 +137,7 @@ module _ (file : File) (setting : Setting) (table codes : List ℕ) where
     unfolding smaller four_at
     undecided_first a b h l u d = rw (decided_is b l d) (lex_ahead _ _ _ _ (let m = low a h u in omega arith))
 
-    sorts_so : (a b : ℕ) → a < setting.inputs → b < setting.inputs → smaller keys a b ≡ tighter_in file setting table codes a b
+    sorts_so : (a b : ℕ) → a < setting.inputs → b < setting.inputs → smaller keys a b ≡ tighter_in setting codes a b
     sorts_so a b h l =
         cases (undecided_at a)
         (λ u. cases (undecided_at b)
@@ -156,8 +145,8 @@ module _ (file : File) (setting : Setting) (table codes : List ℕ) where
         (λ v. undecided_first a b h l u v ∙ sym (tighter_is a b h l ∙ rw (u, v) refl)))
         (λ u. decided_last a b h l u ∙ sym (tighter_is a b h l ∙ rw u refl))
 
-  pub tried_sorts : (keys : List Four) → KeysMade (TriedKey file setting table codes) setting.inputs keys
-      → SortsBy (tighter_in file setting table codes) setting.inputs keys
+  pub tried_sorts : (keys : List Four) → KeysMade (TriedKey setting codes) setting.inputs keys
+      → SortsBy (tighter_in setting codes) setting.inputs keys
   unfolding four_at smaller
   tried_sorts keys made = record {
     same = sorts_so keys
@@ -168,7 +157,7 @@ module _ (file : File) (setting : Setting) (table codes : List ℕ) where
 
   -- Where fewer than two inputs are undecided, none has to be tried: two undecided ones are the same.
   pub untried_sorts : (keys : List Four) {count : ℕ} → setting.inputs ≤ length codes
-      → count ≡ count_by (λ code. undecided (decode code)) (take setting.inputs codes) → count < 2 → KeysMade (UntriedKey codes) setting.inputs keys → SortsBy (tighter_in file setting table codes) setting.inputs keys
+      → count ≡ count_by (λ code. undecided (decode code)) (take setting.inputs codes) → count < 2 → KeysMade (UntriedKey codes) setting.inputs keys → SortsBy (tighter_in setting codes) setting.inputs keys
   unfolding four_at smaller
   untried_sorts keys enough counted few made = record {
     same = sorts_so keys

@@ -1,15 +1,16 @@
 // The list by bounds: each undecided input of the whole frame is tried, and goes by the upper numbers of its children.
 ghost use Rattle.std.specs.Prelude.{true, false, [], ◌∷◌, ◌≡◌, ◌+◌, ◌≤◌, ◌<◌, length, take, count_by};
+ghost use Rattle.excitation.specs.Excitation.{byte_of};
 ghost use Rattle.excitation.specs.UncertaintySet.{decode};
 ghost use Rattle.block.specs.Verdict.{verdict};
 ghost use Rattle.operation.specs.SplitOrder.{list_bytes};
-ghost use Rattle.evaluation.specs.Evaluation.{Evaluable};
+ghost use Rattle.evaluation.specs.Evaluation.{HasRows, Evaluable};
 ghost use Rattle.cases.specs.Case.{undecided};
 ghost use Rattle.cases.specs.Records.{SetCodes};
 ghost use Rattle.bounds.specs.Bounds.{upper_of};
 ghost use Rattle.split_order.specs.Sorting.{four_of, KeysMade, SortsBy};
 ghost use Rattle.split_order.specs.SplitOrder.{bound_order_checks, frame_order, BoundOrdered};
-ghost use Rattle.split_order.specs.Trying.{Triable, decided_key, UntriedKey, TriedBelow, TriedKey, tighter_in};
+ghost use Rattle.split_order.specs.Trying.{decided_key, UntriedKey, TriedBelow, TriedKey, tighter_in};
 
 use super::key::Four;
 use super::sort;
@@ -25,8 +26,8 @@ use sheet::Word;
 const DECIDED: u64 = u64::MAX;
 
 // How many inputs are undecided.
-fn undecided_inputs(codes: &[u8], inputs: usize) -> usize
-    requires { inputs ≤ length codes.now }
+fn undecided_inputs(codes: &[u8; 64], inputs: usize) -> usize
+    requires { inputs ≤ 64 }
     ensures { result ≡ count_by (λ code. undecided (decode code)) (take inputs codes.now) }
 {
     let codes = &codes[..inputs];
@@ -58,105 +59,87 @@ fn untried_keys(codes: &[u8; 64], inputs: usize) -> [Four; 64]
     keys
 }
 
-// Tries the child whose input has the excitation of byte e, where the frame's set allows it: puts its upper number among those of the
+// Tries the child whose input has an excitation, where the frame's set allows it: puts its upper number among those of the
 // children before it.
 fn try_child(
-    file: &[u8],
-    setting: Setting,
-    table: &[u16],
+    setting: Setting<'_>,
     frame: &[u8; 64],
     input: Net,
-    e: u8,
+    e: Excitation,
     cap: u64,
     tried: Four,
     sheet: &mut [Word],
     work: &mut [u8],
 ) -> Four
-    requires { Evaluable file.now setting sheet.old work.old × SetCodes setting.inputs frame.now × (input.0 < setting.inputs) × (e < 4) × (cap ≡ upper_of file.now setting table.now frame.now) × TriedBelow file.now setting table.now frame.now input.0 e tried }
-    ensures { TriedBelow file.now setting table.now frame.now input.0 (e + 1) result }
+    requires { Evaluable setting sheet.old work.old × SetCodes setting.inputs frame.now × (input.0 < setting.inputs) × (cap ≡ upper_of setting frame.now) × TriedBelow setting frame.now input.0 (byte_of e) tried }
+    ensures { TriedBelow setting.entry frame.now input.0 (byte_of e + 1) result }
 {
     let net = input.0;
     let set = Set { code: frame[net] };
-    if !set.contains(Excitation::from(e)) {
+    if !set.contains(e) {
         return tried;
     }
     let codes = sets::child_codes(frame, input, e);
-    let own = evaluate::evaluate_case(file, setting, table, &codes, sheet, work);
+    let own = evaluate::evaluate_case(setting, &codes, sheet, work);
     tried.put(cap.min(own))
 }
 
 // Tries an input of the frame: its children's upper numbers in falling order, filled with 0 to four. A decided one is not tried.
 fn try_input(
-    file: &[u8],
-    setting: Setting,
-    table: &[u16],
+    setting: Setting<'_>,
     frame: &[u8; 64],
     input: Net,
     cap: u64,
     sheet: &mut [Word],
     work: &mut [u8],
 ) -> Four
-    requires { Evaluable file.now setting sheet.old work.old × SetCodes setting.inputs frame.now × (input.0 < setting.inputs) × (cap ≡ upper_of file.now setting table.now frame.now) }
-    ensures { TriedKey file.now setting table.now frame.now input.0 (four_of result) }
+    requires { Evaluable setting sheet.old work.old × SetCodes setting.inputs frame.now × (input.0 < setting.inputs) × (cap ≡ upper_of setting frame.now) }
+    ensures { TriedKey setting.entry frame.now input.0 (four_of result) }
 {
     let net = input.0;
     if !sets::is_undecided(frame[net]) {
         return Four::alone(DECIDED);
     }
     let mut tried = Four::alone(0);
-    for e in 0..4 {
-        tried = try_child(
-            file, setting, table, frame, input, e, cap, tried, sheet, work,
-        );
+    for e in sets::EXCITATIONS {
+        tried = try_child(setting, frame, input, e, cap, tried, sheet, work);
     }
     tried
 }
 
 // Tries every undecided input: the numbers of all. The sheet is scratch, and the call's own.
-fn tried_keys(
-    file: &[u8],
-    setting: Setting,
-    table: &[u16],
-    frame: &[u8; 64],
-    work: &mut [u8],
-) -> [Four; 64]
-    requires { Triable file.now setting work.old × SetCodes setting.inputs frame.now }
-    ensures { KeysMade (TriedKey file.now setting table.now frame.now) setting.inputs result }
+fn tried_keys(setting: Setting<'_>, frame: &[u8; 64], work: &mut [u8]) -> [Four; 64]
+    requires { HasRows work.old setting.nets × SetCodes setting.inputs frame.now }
+    ensures { KeysMade (TriedKey setting.entry frame.now) setting.entry.inputs result }
 {
     let mut keys = [Four::alone(0); 64];
     let mut sheet: [Word; 8192] = [0; 8192];
-    let cap = evaluate::evaluate_case(file, setting, table, frame, &mut sheet, work);
+    let cap = evaluate::evaluate_case(setting, frame, &mut sheet, work);
     for net in 0..setting.inputs {
-        keys[net] = try_input(file, setting, table, frame, Net(net), cap, &mut sheet, work);
+        keys[net] = try_input(setting, frame, Net(net), cap, &mut sheet, work);
     }
     keys
 }
 
 // The numbers of the inputs. Of fewer than two undecided inputs none has to be tried.
-fn bound_keys(
-    file: &[u8],
-    setting: Setting,
-    table: &[u16],
-    frame: &[u8; 64],
-    work: &mut [u8],
-) -> [Four; 64]
-    requires { Triable file.now setting work.old × SetCodes setting.inputs frame.now }
-    ensures { SortsBy (tighter_in file.now setting table.now frame.now) setting.inputs result }
+fn bound_keys(setting: Setting<'_>, frame: &[u8; 64], work: &mut [u8]) -> [Four; 64]
+    requires { HasRows work.old setting.nets × SetCodes setting.inputs frame.now }
+    ensures { SortsBy (tighter_in setting.entry frame.now) setting.entry.inputs result }
 {
     if undecided_inputs(frame, setting.inputs) < 2 {
         return untried_keys(frame, setting.inputs);
     }
-    tried_keys(file, setting, table, frame, work)
+    tried_keys(setting, frame, work)
 }
 
 // The list of an accepted file, with arguments that passed.
-fn list_by_bounds(file: &[u8], setting: Setting, table: &[u16], work: &mut [u8]) -> [u8; 64]
-    requires { Triable file.now setting work.old }
-    ensures { result ≡ list_bytes (frame_order file.now setting.hops table.now) }
+fn list_by_bounds(setting: Setting<'_>, work: &mut [u8]) -> [u8; 64]
+    requires { HasRows work.old setting.nets }
+    ensures { result ≡ list_bytes (frame_order setting.entry.file.now setting.entry.hops setting.entry.table.now) }
 {
     let mut frame = [0u8; 64];
-    block::frame_codes(file, setting.inputs, &mut frame);
-    let keys = bound_keys(file, setting, table, &frame, work);
+    block::frame_codes(setting.file, setting.inputs, &mut frame);
+    let keys = bound_keys(setting, &frame, work);
     sort::sorted(&keys, setting.inputs)
 }
 
@@ -182,12 +165,14 @@ pub fn bound_order(
     let Counts { nets, inputs } = block::read(file)?;
     check_arguments(nets, hops, table.len(), work.len())?;
     let setting = Setting {
+        file,
+        table,
         nets,
         inputs,
         hops: hops as usize,
     };
     Ok(SplitOrder {
         inputs,
-        nets: list_by_bounds(file, setting, table, work),
+        nets: list_by_bounds(setting, work),
     })
 }

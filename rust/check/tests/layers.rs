@@ -45,7 +45,7 @@ const CITED: [Named; 11] = [
     Named {
         module: "evaluation.specs.Evaluation",
         names: &["Evaluable", "HasRows", "InputCodes", "sheet_for", "Evaluated"],
-        why: "What the contract of `evaluate` names: what it is given and what it gives.",
+        why: "What the contract of `evaluate` names: what it is lent and what it gives.",
     },
     Named {
         module: "evaluation.specs.Evaluation",
@@ -55,7 +55,7 @@ const CITED: [Named; 11] = [
     Named {
         module: "evaluation.specs.declared.Setting",
         names: &["Setting"],
-        why: "The struct that every evaluation of a call takes: the counts of the block and the hop limit.",
+        why: "The struct that every evaluation of a call takes: the block, the table and the hop limit.",
     },
     Named {
         module: "evaluation.proofs.Given",
@@ -84,8 +84,8 @@ const CITED: [Named; 11] = [
     },
     Named {
         module: "evaluation::",
-        names: &["evaluate", "Setting"],
-        why: "The code of an evaluation, called by contract, and the struct that it takes.",
+        names: &["Setting"],
+        why: "The struct whose method is an evaluation, called by contract.",
     },
     Named {
         module: "simulator::",
@@ -95,7 +95,7 @@ const CITED: [Named; 11] = [
 ];
 
 /// The abbreviations among them, which open by themselves, and why that shows nothing inside.
-const ABBREVIATIONS: [(&[&str], &str); 3] = [
+const ABBREVIATIONS: [(&[&str], &str); 4] = [
     (
         &[
             "simulated_sheet",
@@ -109,6 +109,10 @@ const ABBREVIATIONS: [(&[&str], &str); 3] = [
     (
         &["currents_of"],
         "It opens to `drop_of` and `quiet_tick`, which stay shut.",
+    ),
+    (
+        &["InputCodes"],
+        "It opens to the bytes of codes, each below 16.",
     ),
     (
         &["SinglesEvaluated"],

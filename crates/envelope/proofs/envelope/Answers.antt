@@ -14,11 +14,17 @@ returns-in_err-check_arguments c =
     argument_refused _ c.read.ensures _ c.in_ok-nets.was c.check_arguments.ensures _ c.in_err-check_arguments.was
     (handed_on c.from_residual-in_err-check_arguments.ensures.1 refl)
 
+pub invariant_of-setting : goal.invariant_of-setting
+invariant_of-setting c = record {
+  accepted = file_accepted c.read.ensures c.in_ok-nets.was;
+  some_hops = (arguments_right _ _ _ _ _ (sym c.check_arguments.ensures ∙ c.in_ok-check_arguments.was)).some_hops;
+}
+
 pub evaluate_frame-requires : goal.evaluate_frame-requires
 evaluate_frame-requires c =
     let file = file_accepted c.read.ensures c.in_ok-nets.was in
     let right = arguments_right _ _ _ _ _ (sym c.check_arguments.ensures ∙ c.in_ok-check_arguments.was) in
-    record { accepted = file; some_hops = right.some_hops; sheet_long = right.sheet_long; rows = record { whole = right.work_long; numbered = file.few_nets } }
+    record { sheet_long = right.sheet_long; rows = record { whole = right.work_long; numbered = file.few_nets } }
 
 pub returns : goal.returns
 returns c = call_accepted _ c.read.ensures _ c.in_ok-nets.was c.check_arguments.ensures _ _ _ c.in_ok-check_arguments.was c.evaluate_frame.ensures

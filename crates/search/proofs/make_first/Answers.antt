@@ -1,15 +1,14 @@
 -- `search::make_first` meets its contract.
 -- Assumes nothing.
 use native.Mathlib.Omega.{arith}
-use Rattle.cases.proofs.Frames.{codes_long, frame_coded}
+use Rattle.cases.proofs.Frames.{frame_coded}
 use Rattle.search.proofs.First.{first_made}
 use Rattle.search.proofs.make_first.Goals as goal
 
 pub make_case-requires : goal.make_case-requires
 make_case-requires c =
-    let file = c.requires.0.accepted in (
+    let file = c.args.setting.accepted in (
       c.requires.0,
-      codes_long file c.frame_codes.ensures,
       frame_coded file c.frame_codes.ensures,
       c.requires.1,
       record { whole = omega (arith, c.requires.2); numbered = omega arith },
@@ -17,4 +16,4 @@ make_case-requires c =
 
 pub returns : goal.returns
 returns c =
-    first_made c.requires.0.accepted c.frame_codes.ensures c.make_case.ensures (omega arith) c.requires.1 c.requires.2
+    first_made c.frame_codes.ensures c.make_case.ensures (omega arith) c.requires.1 c.requires.2

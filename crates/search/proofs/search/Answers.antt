@@ -16,20 +16,27 @@ returns-in_err-check_arguments c =
     argument_refused _ c.read.ensures _ c.in_ok-nets.was c.check_arguments.ensures _ c.in_err-check_arguments.was
     (handed_on c.from_residual-in_err-check_arguments.ensures.1 refl)
 
+pub invariant_of-setting : goal.invariant_of-setting
+invariant_of-setting c = record {
+  accepted = file_accepted c.read.ensures c.in_ok-nets.was;
+  some_hops = (arguments_right _ _ _ _ _ _ _ _ _ _ _ (sym c.check_arguments.ensures ∙ c.in_ok-check_arguments.was)).some_hops;
+}
+
+pub invariant_of-limits : goal.invariant_of-limits
+invariant_of-limits c =
+    let right = arguments_right _ _ _ _ _ _ _ _ _ _ _ (sym c.check_arguments.ensures ∙ c.in_ok-check_arguments.was) in
+    record { ratio_high = right.ratio_high; budget_high = right.budget_high }
+
 pub search_block-requires : goal.search_block-requires
 search_block-requires c =
     let file = file_accepted c.read.ensures c.in_ok-nets.was in
     let right = arguments_right _ _ _ _ _ _ _ _ _ _ _ (sym c.check_arguments.ensures ∙ c.in_ok-check_arguments.was) in (
       record {
-        accepted = file;
-        some_hops = right.some_hops;
         sheet_long = right.sheet_long;
         rows = record { whole = right.work_long; numbered = file.few_nets };
       },
       right.pattern_long,
       nets_listed _ _ right.order_right,
-      right.ratio_high,
-      right.budget_high,
       right.store_long,
     )
 

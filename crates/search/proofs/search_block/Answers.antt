@@ -1,6 +1,5 @@
 -- `search::search_block` meets its contract.
 -- Assumes nothing.
-use mathlib.Core.Path.{refl}
 use native.Mathlib.Omega.{arith}
 use Rattle.cases.proofs.Probes.{first_covered}
 use Rattle.evaluation.proofs.Given.{evaluable_kept}
@@ -13,11 +12,11 @@ run-ended-requires c =
       evaluable_kept c.requires.0 made.auto.sheet made.auto.work,
       made.ensures.running,
       c.requires.2,
-      c.requires.3,
-      c.requires.4,
-      omega (arith, c.requires.5, made.ensures.past.store_long),
+      omega (arith, c.requires.3, made.ensures.past.store_long),
       rw made.ensures.state (first_covered _ _ _),
     )
 
 pub returns : goal.returns
-returns c = block_searched _ c.requires.0.accepted refl c.make_first-threshold.ensures c.run-ended.ensures c.draw_cases.ensures c.quiet_tick-quiet.ensures
+returns c =
+    block_searched c.args.setting c.args.limits.ratio c.args.limits.budget c.args.order.now c.args.sheet.now c.args.pattern.now c.args.work.now
+    c.args.store.now c.make_first-threshold.ensures c.run-ended.ensures c.draw_cases.ensures c.quiet_tick-quiet.ensures

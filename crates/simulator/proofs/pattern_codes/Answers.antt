@@ -22,7 +22,4 @@ loop-net-preserved c =
     (c.single.ensures ∙ ap (λ e. code (single e)) c.from.ensures) l.invariant
 
 pub returns : goal.returns
-returns c =
-    let l = c.loop-net in
-    let all = rewritten_to _ _ _ c.args.inputs _ _ (omega arith) l.invariant in
-    record { long = all.long ∙ c.requires.2; at = rewritten_first _ _ _ _ all }
+returns c = record { at = rewritten_first _ _ _ _ (rewritten_to _ _ _ c.args.inputs _ _ (omega arith) c.loop-net.invariant) }

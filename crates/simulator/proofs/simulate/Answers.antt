@@ -27,11 +27,14 @@ returns-in_err-check_pattern c =
     (accepted_first _ _ (sym c.check_sizes.ensures ∙ c.in_ok-check_sizes.was) ∙ sym c.check_pattern.ensures ∙ c.in_err-check_pattern.was)
     (handed_on c.from_residual-in_err-check_pattern.ensures.1 refl)
 
+pub invariant_of-setting : goal.invariant_of-setting
+invariant_of-setting c = record { accepted = file_accepted c.read.ensures c.in_ok-nets.was; some_hops = omega arith }
+
 pub evaluate_pattern-requires : goal.evaluate_pattern-requires
 evaluate_pattern-requires c =
     let file = file_accepted c.read.ensures c.in_ok-nets.was in
     let right = sizes_right _ _ _ _ _ (sym c.check_sizes.ensures ∙ c.in_ok-check_sizes.was) in
-    (record { accepted = file; some_hops = omega arith; sheet_long = right.sheet_long; rows = record { whole = right.work_long; numbered = file.few_nets } }, right.pattern_long)
+    (record { sheet_long = right.sheet_long; rows = record { whole = right.work_long; numbered = file.few_nets } }, right.pattern_long)
 
 pub returns : goal.returns
 returns c =

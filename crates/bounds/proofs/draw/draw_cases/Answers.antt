@@ -10,12 +10,12 @@ use Rattle.bounds.proofs.draw.draw_cases.Goals as goal
 
 pub loop-k-init : goal.loop-k-init
 loop-k-init c =
-    (refl, length-replicate {A = ℕ} 8192 0, none_drawn c.args.file.now c.args.setting.hops c.args.setting.inputs c.args.store.now _ c.clear.ensures)
+    (refl, length-replicate {A = ℕ} 8192 0, none_drawn c.args.setting.file.now c.args.setting.hops c.args.setting.inputs c.args.store.now _ c.clear.ensures)
 
 pub loop-k-preserved : goal.loop-k-preserved
 loop-k-preserved c =
     let loop = c.loop-k in
-    let file = c.args.file.now in
+    let file = c.args.setting.file.now in
     let hops = c.args.setting.hops in
     let inputs = c.args.setting.inputs in
     let store = c.args.store.now in
@@ -29,4 +29,4 @@ pub returns : goal.returns
 returns c =
     let loop = c.loop-k in
     let e : loop.k ≡ c.args.n = omega (arith, c.loop-k-test.false) in
-    all_drawn c.args.file.now c.args.setting.hops c.args.setting.inputs c.args.store.now c.args.n (rw e at loop.invariant.2)
+    all_drawn c.args.setting.file.now c.args.setting.hops c.args.setting.inputs c.args.store.now c.args.n (rw e at loop.invariant.2)

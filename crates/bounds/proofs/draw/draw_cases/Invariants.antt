@@ -7,4 +7,4 @@ use Rattle.bounds.proofs.Sheets.{sheet_below}
 use Rattle.bounds.proofs.draw.draw_cases.Given as goal
 
 abbrev pub invariant-loop-k : goal.invariant-loop-k
-invariant-loop-k l = (length l.work ≡ length l.initial.work) × (length l.one ≡ 8192) × (l.sheet ≡ sheet_words (sheet_below l.file l.setting.hops l.setting.inputs l.store l.k))
+invariant-loop-k l = (length l.work ≡ length l.initial.work) × (length l.one ≡ 8192) × (l.sheet ≡ sheet_words (sheet_below l.setting.file.now l.setting.hops l.setting.inputs l.store l.k))

@@ -5,10 +5,10 @@ use Rattle.bounds.proofs.evaluate.evaluate_case.Goals as goal
 
 pub returns-then-decided : goal.returns-then-decided
 returns-then-decided c =
-    case_simulated _ c.args.setting c.is_decided-decided.ensures
-    c.if-decided.true c.requires.2 c.evaluate_singles-simulated.ensures
+    case_simulated c.args.setting c.is_decided-decided.ensures
+    c.if-decided.true c.requires.1 c.evaluate_singles-simulated.ensures
 
 pub returns : goal.returns
 returns c =
-    case_enveloped _ c.args.setting c.is_decided-decided.ensures
+    case_enveloped c.args.setting c.is_decided-decided.ensures
     c.if-decided.false c.evaluate-enveloped.ensures

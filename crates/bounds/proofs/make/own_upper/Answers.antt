@@ -4,7 +4,7 @@ use Rattle.bounds.proofs.Making.{upper_simulated, upper_enveloped}
 use Rattle.bounds.proofs.make.own_upper.Goals as goal
 
 pub returns-then-decided : goal.returns-then-decided
-returns-then-decided c = upper_simulated _ c.args.setting _ _ c.is_decided-decided.ensures c.if-decided.true c.requires.3 c.requires.4
+returns-then-decided c = upper_simulated c.args.setting _ c.is_decided-decided.ensures c.if-decided.true c.requires.2 c.requires.3
 
 pub returns : goal.returns
-returns c = upper_enveloped _ c.args.setting _ _ c.is_decided-decided.ensures c.if-decided.false c.evaluate-currents.ensures
+returns c = upper_enveloped c.args.setting _ c.is_decided-decided.ensures c.if-decided.false c.evaluate-currents.ensures

@@ -10,6 +10,6 @@ use Rattle.cases.proofs.store.write_case.Goals as goal
 pub returns : goal.returns
 returns c =
     let copied = c.copy_from_slice.ensures.after in
-    case_written c.args.codes.now _ _ _ c.args.store.now _ _ c.requires.1 c.start-start.ensures
-    (range_written _ c.start-start.result 64 c.args.store.now _ (omega (arith, c.start-start.ensures, c.requires.0.whole)) (ap length copied ∙ c.requires.1) (λ k h. ap (λ part. get_or part k 0) copied))
+    case_written c.args.codes.now _ _ _ c.args.store.now _ _ c.told-codes c.start-start.ensures
+    (range_written _ c.start-start.result 64 c.args.store.now _ (omega (arith, c.start-start.ensures, c.requires.whole)) (ap length copied ∙ c.told-codes) (λ k h. ap (λ part. get_or part k 0) copied))
     c.write_word.ensures

@@ -14,7 +14,7 @@ pub split-step-requires : goal.split-step-requires
 split-step-requires c =
     let inv = c.loop-outcome.invariant in
     let pre = c.requires in
-    let space = split_room inv.0 c.in_default.ensures.2 pre.4 pre.5 in
+    let space = split_room inv.0 c.in_default.ensures.2 c.args.limits.budget_high pre.3 in
     (evaluable_kept pre.0 inv.1 inv.2, inv.0.running, case_to_split inv.0.running _ c.argmax-k.ensures.1 _ c.argmax-k.ensures.0 c.upper-upper.ensures, pre.2, space.0, space.1, inv.0.covered)
 
 pub loop-outcome-preserved : goal.loop-outcome-preserved

@@ -8,7 +8,7 @@ use Rattle.search.proofs.run.run.Given as goal
 
 abbrev pub invariant-loop-outcome : goal.invariant-loop-outcome
 invariant-loop-outcome l =
-    Reached l.file l.setting l.table l.order l.limits.ratio l.limits.budget l.threshold l.initial.store l.initial.pattern l.cases l.best l.splits l.store l.pattern × (length l.sheet ≡ length l.initial.sheet) × (length l.work ≡ length l.initial.work)
+    Reached l.setting l.order l.limits.ratio l.limits.budget l.threshold l.initial.store l.initial.pattern l.cases l.best l.splits l.store l.pattern × (length l.sheet ≡ length l.initial.sheet) × (length l.work ≡ length l.initial.work)
 
 abbrev pub decreases-loop-outcome : goal.decreases-loop-outcome
 decreases-loop-outcome l =

@@ -1,10 +1,9 @@
--- `search::split::split` meets its contract. The loop's invariant: the children of the excitations below e are made.
+-- `search::split::split` meets its contract. The loop's invariant: the children of the excitations passed are made.
 -- Assumes nothing.
-use Prim.Native.Nat.{ℕ}
 use mathlib.Core.Path.{refl, ◌∙◌}
 use native.Mathlib.Omega.{arith}
-use lib.ListN.{length-replicate}
-use Rattle.cases.proofs.Records.{codes_copied}
+use Rattle.cases.proofs.Children.{in_order_is}
+use Rattle.cases.proofs.Records.{codes_copied, copied_long, has_case}
 use Rattle.evaluation.proofs.Given.{evaluable_kept}
 use Rattle.search.proofs.Splitting.{child_room, parent_below, splitting_begun, splitting_next, case_split}
 use Rattle.search.proofs.split.split.Goals as goal
@@ -16,38 +15,35 @@ pub make_child-step-requires : goal.make_child-step-requires
 make_child-step-requires c =
     let at = c.loop-e in
     let ready = c.requires.0 in
-    let copied = c.read_sets.ensures in
+    let copied = c.read_sets-parent.ensures in
     let below = c.loop-e-test.true in
     let room = child_room c.requires.2.inside below c.requires.5 c.requires.4 at.invariant.2 in (
       evaluable_kept ready at.invariant.0 at.invariant.1,
-      copied.long ∙ length-replicate {A = ℕ} 64 0,
-      codes_copied c.args.setting.inputs ready.accepted.few_inputs c.args.store.now c.args.k.0 _ _ copied
+      codes_copied c.args.setting.inputs c.args.setting.accepted.few_inputs c.args.store.now c.args.k.0 _ copied
           (c.requires.1.cases.codes c.args.k.0 c.requires.2.inside),
       c.choose-input.ensures.1,
-      below,
       at.invariant.2.best.long ∙ c.requires.1.pattern_long,
       room,
       at.invariant.2.best.threshold_high,
-      parent_below ready.accepted.few_inputs c.requires.1 c.requires.2.inside c.requires.6 copied at.invariant.2,
+      parent_below c.requires.1 c.requires.2.inside c.requires.6 copied at.invariant.2,
     )
 
 pub loop-e-preserved : goal.loop-e-preserved
 loop-e-preserved c =
     let made = c.make_child-step in
     let at = c.loop-e in
-    let accepted = c.requires.0.accepted in
-    let copied = c.read_sets.ensures in (
+    let copied = c.read_sets-parent.ensures in (
       made.auto.sheet ∙ at.invariant.0,
       made.auto.work ∙ at.invariant.1,
-      splitting_next c.requires.2.inside c.loop-e-test.true c.requires.5 c.requires.4 at.invariant.2 accepted.few_inputs
-          (copied.long ∙ length-replicate {A = ℕ} 64 0)
-          (codes_copied c.args.setting.inputs accepted.few_inputs c.args.store.now c.args.k.0 _ _ copied
+      splitting_next c.requires.2.inside c.loop-e-test.true c.requires.5 c.requires.4 at.invariant.2
+          (copied_long (has_case c.requires.1.cases c.requires.2.inside) copied)
+          (codes_copied c.args.setting.inputs c.args.setting.accepted.few_inputs c.args.store.now c.args.k.0 _ copied
           (c.requires.1.cases.codes c.args.k.0 c.requires.2.inside))
-          c.choose-input.ensures.1 made.ensures,
+          c.choose-input.ensures.1 (rw (in_order_is at.e-index) at made.ensures),
     )
 
 pub returns : goal.returns
 returns c =
     let done = c.loop-e in
-    case_split c.args.order.now c.requires.0.accepted c.requires.1 c.requires.2 c.read_sets.ensures c.choose-input.ensures.0
+    case_split c.args.order.now c.requires.1 c.requires.2 c.read_sets-parent.ensures c.choose-input.ensures.0
     (omega arith) done.invariant.2

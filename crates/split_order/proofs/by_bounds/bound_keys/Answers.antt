@@ -6,8 +6,8 @@ use Rattle.split_order.proofs.by_bounds.bound_keys.Goals as goal
 
 pub returns-then-undecided_inputs-lt2 : goal.returns-then-undecided_inputs-lt2
 returns-then-undecided_inputs-lt2 c =
-    untried_sorts _ c.args.setting _ _ _ (omega (arith, c.requires.0.accepted.few_inputs, c.told-frame)) c.undecided_inputs.ensures c.if-undecided_inputs-lt2.true c.untried_keys.ensures
+    untried_sorts c.args.setting _ _ (omega (arith, c.args.setting.accepted.few_inputs, c.told-frame)) c.undecided_inputs.ensures c.if-undecided_inputs-lt2.true c.untried_keys.ensures
 
 pub returns : goal.returns
 returns c =
-    tried_sorts _ c.args.setting _ _ _ c.tried_keys.ensures
+    tried_sorts c.args.setting _ _ c.tried_keys.ensures

@@ -14,11 +14,17 @@ returns-in_err-check_arguments c =
     argument_refused _ c.read.ensures _ c.in_ok-nets.was c.check_arguments.ensures _ c.in_err-check_arguments.was
     (handed_on c.from_residual-in_err-check_arguments.ensures.1 refl)
 
+pub invariant_of-setting : goal.invariant_of-setting
+invariant_of-setting c = record {
+  accepted = file_accepted c.read.ensures c.in_ok-nets.was;
+  some_hops = (arguments_right _ _ _ _ (sym c.check_arguments.ensures ∙ c.in_ok-check_arguments.was)).some_hops;
+}
+
 pub list_by_bounds-requires : goal.list_by_bounds-requires
-list_by_bounds-requires c =
-    let file = file_accepted c.read.ensures c.in_ok-nets.was in
-    let right = arguments_right _ _ _ _ (sym c.check_arguments.ensures ∙ c.in_ok-check_arguments.was) in
-    record { accepted = file; some_hops = right.some_hops; rows = record { whole = right.work_long; numbered = file.few_nets } }
+list_by_bounds-requires c = record {
+  whole = (arguments_right _ _ _ _ (sym c.check_arguments.ensures ∙ c.in_ok-check_arguments.was)).work_long;
+  numbered = (file_accepted c.read.ensures c.in_ok-nets.was).few_nets;
+}
 
 pub returns : goal.returns
 returns c = list_made _ c.read.ensures _ c.in_ok-nets.was c.check_arguments.ensures c.in_ok-check_arguments.was c.list_by_bounds.ensures

@@ -12,8 +12,8 @@ loop-net-preserved c =
     let inv = c.loop-net.invariant in
     let tried = c.try_input in (
       length-set c.loop-net.keys c.loop-net.net tried.result ∙ inv.0,
-      keys_next (TriedKey c.args.file.now c.args.setting c.args.table.now c.args.frame.now) _ c.loop-net.keys
-          (omega (arith, c.loop-net-test.true, c.requires.0.accepted.few_inputs, inv.0)) tried.ensures inv.1,
+      keys_next (TriedKey c.args.setting c.args.frame.now) _ c.loop-net.keys
+          (omega (arith, c.loop-net-test.true, c.args.setting.accepted.few_inputs, inv.0)) tried.ensures inv.1,
       tried.auto.sheet ∙ inv.2,
       tried.auto.work ∙ inv.3,
     )

@@ -7,4 +7,4 @@ use Rattle.split_order.specs.Trying.{TriedKey}
 use Rattle.split_order.proofs.by_bounds.tried_keys.Given as goal
 
 abbrev pub invariant-loop-net : goal.invariant-loop-net
-invariant-loop-net l = (length l.keys ≡ 64) × KeysMade (TriedKey l.file l.setting l.table l.frame) l.net l.keys × (length l.sheet ≡ 8192) × (length l.work ≡ length l.initial.work)
+invariant-loop-net l = (length l.keys ≡ 64) × KeysMade (TriedKey l.setting l.frame) l.net l.keys × (length l.sheet ≡ 8192) × (length l.work ≡ length l.initial.work)

@@ -1,8 +1,10 @@
 -- `split_order::by_bounds::try_child` meets its contract.
 -- Assumes nothing.
 use mathlib.Core.Bool.{not}
-use mathlib.Core.Path.{ap, ◌∙◌, subst, sym}
-use lib.ListN.{length, length-set}
+use mathlib.Core.Path.{ap, subst, sym}
+use native.Mathlib.Omega.{arith}
+use Rattle.excitation.specs.Excitation.{byte_of}
+use Rattle.excitation.proofs.Bytes.{byte_low, byte_back}
 use Rattle.cases.proofs.Children.{child_coded}
 use Rattle.cases.specs.Records.{SetCodes}
 use Rattle.split_order.proofs.Trying.{tried_skipped, tried_more}
@@ -10,19 +12,19 @@ use Rattle.split_order.proofs.by_bounds.try_child.Goals as goal
 
 pub returns-then-not-contains : goal.returns-then-not-contains
 returns-then-not-contains c =
-    tried_skipped _ c.args.setting _ _ c.args.input.0 c.requires.2 c.args.e c.from.ensures c.contains.ensures c.requires.5 (ap not c.if-not-contains.true)
+    tried_skipped c.args.setting _ c.args.input.0 c.requires.2 (byte_of c.args.e) (sym (byte_back c.args.e)) c.contains.ensures c.requires.4 (ap not c.if-not-contains.true)
 
 pub evaluate_case-own-requires : goal.evaluate_case-own-requires
 evaluate_case-own-requires c =
     let coded = c.child_codes-codes.ensures in
-    let few = c.requires.0.accepted.few_inputs in (
+    let few = c.args.setting.accepted.few_inputs in (
       c.requires.0,
-      ap length coded ∙ length-set c.args.frame.now _ _ ∙ c.told-frame,
       subst (SetCodes c.args.setting.inputs) (sym coded) (child_coded _ few c.args.frame.now c.told-frame c.args.input.0 c.requires.2 c.args.e c.requires.1),
     )
 
 pub returns : goal.returns
 returns c =
-    tried_more _ c.args.setting _ _ c.args.input.0 c.requires.2 c.args.e c.from.ensures c.contains.ensures
-    c.requires.5 c.requires.0.accepted.few_inputs c.told-frame c.requires.3 (ap not c.if-not-contains.false) c.child_codes-codes.ensures c.requires.4
+    let e = c.args.e in
+    tried_more c.args.setting _ c.args.input.0 c.requires.2 (byte_of e) (sym (byte_back e)) c.contains.ensures
+    c.requires.4 c.told-frame (let low = byte_low e in omega arith) (ap not c.if-not-contains.false) c.child_codes-codes.ensures c.requires.3
     c.evaluate_case-own.ensures c.min.ensures c.put.ensures

@@ -1,4 +1,4 @@
--- `evaluation::draw` meets its contract. The loop's invariant: the nets passed are evaluated, and the settling tick is theirs.
+-- `evaluation::Setting::draw` meets its contract. The loop's invariant: the nets passed are evaluated, and the settling tick is theirs.
 -- Assumes nothing.
 use Prim.Native.Nat.{◌<◌}
 use mathlib.Core.Path.{◌≡◌, refl, ap, sym, ◌∙◌}
@@ -13,35 +13,32 @@ use Rattle.evaluation.specs.Evaluation.{HasRows}
 use Rattle.evaluation.proofs.Drawing.{Evaluating, next_checked, next_ready, next_arrives, next_drawable, next_evaluated, all_evaluated, inputs_evaluated}
 use Rattle.evaluation.proofs.Settling.{net_settling, settling_is, inputs_settling, next_settling}
 use Rattle.evaluation.proofs.Rows.{has_row}
-use Rattle.evaluation.proofs.draw.Goals as goal
+use Rattle.evaluation.proofs.Setting.draw.Goals as goal
 
 pub clear-requires : goal.clear-requires
 clear-requires c = c.requires.0.sheet_long
 
 pub make_inputs-requires : goal.make_inputs-requires
 make_inputs-requires c =
-    let pre = c.requires in
-    let g = pre.0 in (
-      omega (arith, g.accepted.whole, g.accepted.inputs_first),
-      pre.1,
-      record { whole = omega (arith, g.rows.whole, g.accepted.inputs_first); numbered = omega (arith, g.rows.numbered, g.accepted.inputs_first) },
-    )
+    let g = c.requires.0 in
+    let first = c.args.self.accepted.inputs_first in
+    (c.requires.1, record { whole = omega (arith, g.rows.whole, first); numbered = omega (arith, g.rows.numbered, first) })
 
 pub loop-net-init : goal.loop-net-init
 loop-net-init c =
     let g = c.requires.0 in
-    let file = c.args.file.now in
-    let setting = c.args.setting in
+    let file = c.args.self.file.now in
+    let setting = c.args.self in
     let made = c.make_inputs.ensures in
     let cleared = c.clear.ensures in (
       refl,
-      inputs_evaluated file setting.nets setting.inputs g.accepted setting.hops c.args.codes.now made cleared,
-      sym (inputs_settling file setting.nets setting.inputs g.accepted),
+      inputs_evaluated file setting.nets setting.inputs c.args.self.accepted setting.hops c.args.codes.now made cleared,
+      sym (inputs_settling file setting.nets setting.inputs c.args.self.accepted),
       omega arith,
     )
 
 pub gate-gate-requires : goal.gate-gate-requires
-gate-gate-requires c = has_record _ _ _ _ c.requires.0.accepted (omega arith)
+gate-gate-requires c = has_record _ _ _ _ c.args.self.accepted (omega arith)
 
 pub slice_bounds-gate_waveform-end : goal.slice_bounds-gate_waveform-end
 slice_bounds-gate_waveform-end c = sym (ap length c.joins-joins.ensures ∙ table_long)
@@ -51,34 +48,34 @@ gate_waveform-requires c =
     let g = c.requires.0 in
     let l = c.loop-net in
     let begun = c.make_inputs.ensures.long in
-    let file = c.args.file.now in
-    let setting = c.args.setting in
+    let file = c.args.self.file.now in
+    let setting = c.args.self in
     let sets = sets_in setting.inputs c.args.codes.now in
     let here : l.net < setting.nets = omega arith in
     let rows : HasRows l.work setting.nets = record { whole = omega (arith, g.rows.whole, begun, l.invariant.0); numbered = g.rows.numbered } in
     let read = c.gate-gate.ensures in
-    (next_ready file setting.nets setting.inputs g.accepted setting.hops sets l.invariant.1 (omega arith) (omega arith) here read rows, g.some_hops, c.joins-joins.ensures)
+    (next_ready file setting.nets setting.inputs c.args.self.accepted setting.hops sets l.invariant.1 (omega arith) (omega arith) here read rows, c.args.self.some_hops, c.joins-joins.ensures)
 
 pub draw_gate-requires : goal.draw_gate-requires
 draw_gate-requires c =
     let g = c.requires.0 in
     let l = c.loop-net in
     let begun = c.make_inputs.ensures.long in
-    let file = c.args.file.now in
-    let setting = c.args.setting in
+    let file = c.args.self.file.now in
+    let setting = c.args.self in
     let sets = sets_in setting.inputs c.args.codes.now in
     let here : l.net < setting.nets = omega arith in
     let rows : HasRows l.work setting.nets = record { whole = omega (arith, g.rows.whole, begun, l.invariant.0); numbered = g.rows.numbered } in
     let read = c.gate-gate.ensures in
     let made = c.gate_waveform.ensures in
-    next_drawable file setting.nets setting.inputs g.accepted setting.hops sets l.invariant.1 (omega arith) (omega arith) here read made rows
+    next_drawable file setting.nets setting.inputs c.args.self.accepted setting.hops sets l.invariant.1 (omega arith) (omega arith) here read made rows
 
 pub arrival-arrival-requires : goal.arrival-arrival-requires
 arrival-arrival-requires c =
     let g = c.requires.0 in
     let l = c.loop-net in
     let begun = c.make_inputs.ensures.long in
-    let setting = c.args.setting in
+    let setting = c.args.self in
     let here : l.net < setting.nets = omega arith in
     let rows : HasRows l.work setting.nets = record { whole = omega (arith, g.rows.whole, begun, l.invariant.0); numbered = g.rows.numbered } in
     let read = c.gate-gate.ensures in
@@ -90,14 +87,14 @@ last_pulse_end-requires c =
     let g = c.requires.0 in
     let l = c.loop-net in
     let begun = c.make_inputs.ensures.long in
-    let file = c.args.file.now in
-    let setting = c.args.setting in
+    let file = c.args.self.file.now in
+    let setting = c.args.self in
     let sets = sets_in setting.inputs c.args.codes.now in
     let here : l.net < setting.nets = omega arith in
     let rows : HasRows l.work setting.nets = record { whole = omega (arith, g.rows.whole, begun, l.invariant.0); numbered = g.rows.numbered } in
     let read = c.gate-gate.ensures in
     let made = c.gate_waveform.ensures in
-    let ranges = (next_checked file setting.nets setting.inputs g.accepted setting.hops sets l.invariant.1 (omega arith) (omega arith) here read).ranges in
+    let ranges = (next_checked file setting.nets setting.inputs c.args.self.accepted setting.hops sets l.invariant.1 (omega arith) (omega arith) here read).ranges in
     let arrives = c.arrival-arrival.ensures in
     (omega (arith, made.arrives, arrives), omega (arith, arrives), omega (arith, ranges.rise_high), omega (arith, ranges.fall_high))
 
@@ -106,17 +103,17 @@ loop-net-preserved c =
     let g = c.requires.0 in
     let l = c.loop-net in
     let begun = c.make_inputs.ensures.long in
-    let file = c.args.file.now in
-    let setting = c.args.setting in
+    let file = c.args.self.file.now in
+    let setting = c.args.self in
     let sets = sets_in setting.inputs c.args.codes.now in
     let here : l.net < setting.nets = omega arith in
     let rows : HasRows l.work setting.nets = record { whole = omega (arith, g.rows.whole, begun, l.invariant.0); numbered = g.rows.numbered } in
     let read = c.gate-gate.ensures in
     let made = c.gate_waveform.ensures in
-    let arrives = c.arrival-arrival.ensures.0 ∙ next_arrives file setting.nets setting.inputs g.accepted setting.hops sets l.invariant.1 (omega arith) (omega arith) here read made in
-    let flow = next_settling file setting.nets setting.inputs g.accepted l.net (omega arith) here read arrives c.last_pulse_end.ensures in (
+    let arrives = c.arrival-arrival.ensures.0 ∙ next_arrives file setting.nets setting.inputs c.args.self.accepted setting.hops sets l.invariant.1 (omega arith) (omega arith) here read made in
+    let flow = next_settling file setting.nets setting.inputs c.args.self.accepted l.net (omega arith) here read arrives c.last_pulse_end.ensures in (
       made.others.long ∙ l.invariant.0,
-      next_evaluated file setting.nets setting.inputs g.accepted setting.hops sets l.invariant.1 (omega arith) (omega arith) here read made c.draw_gate.ensures,
+      next_evaluated file setting.nets setting.inputs c.args.self.accepted setting.hops sets l.invariant.1 (omega arith) (omega arith) here read made c.draw_gate.ensures,
       c.max-settling.ensures ∙ rw (l.invariant.2, flow.0) (sym (max_next l.net (net_settling file))),
       omega (arith, c.max-settling.ensures, flow.1),
     )
@@ -131,14 +128,14 @@ pub returns : goal.returns
 returns c =
     let g = c.requires.0 in
     let l = c.loop-net in
-    let file = c.args.file.now in
-    let setting = c.args.setting in
-    let e : l.net ≡ setting.nets = omega (arith, g.accepted.inputs_first) in
+    let file = c.args.self.file.now in
+    let setting = c.args.self in
+    let e : l.net ≡ setting.nets = omega (arith, c.args.self.accepted.inputs_first) in
     let done : Evaluating file setting.hops (sets_in setting.inputs c.args.codes.now) setting.nets l.work l.sheet = rw e at l.invariant.1 in
     record {
       long = done.long;
-      at = all_evaluated file setting.nets setting.inputs g.accepted setting.hops _ done;
-      most = λ t h. omega (arith, done.most t h, g.accepted.few_nets);
-      settled = l.invariant.2 ∙ ap (λ n. max_below n (net_settling file)) (e ∙ sym g.accepted.net_count_lem) ∙ settling_is file;
+      at = all_evaluated file setting.nets setting.inputs c.args.self.accepted setting.hops _ done;
+      most = λ t h. omega (arith, done.most t h, c.args.self.accepted.few_nets);
+      settled = l.invariant.2 ∙ ap (λ n. max_below n (net_settling file)) (e ∙ sym c.args.self.accepted.net_count_lem) ∙ settling_is file;
       soon = l.invariant.3;
     }
