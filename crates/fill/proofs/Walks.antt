@@ -55,9 +55,6 @@ module _ (row : List ℕ) where
       held : row_bit row one.first ≡ true
       held = next.begun.found next.early
 
-      pub walk_on : end < one.end
-      walk_on = omega (arith, run_long row one.first one.end next.early held next.ended, next.begun.low)
-
       pub walk_more : (g' : Gap) → g' ≡ shorter g (gap end (one.first - end)) → Walked row g' one.end
       unfolding shortest gaps_after
       walk_more g' shorter_is = record {
