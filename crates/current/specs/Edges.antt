@@ -72,8 +72,6 @@ pub record Either (ticks others all : List ℕ) : Type 0 where
 
 -- The ticks by the one peak that each has: those of the greater peak, those of the lower one, where it is alone, and all.
 pub record TicksByPeak (greater lower all : List ℕ) : Type 0 where
-  pub greater_long : length greater ≡ 4
-  pub lower_long : length lower ≡ 4
   pub either : Either greater lower all
   pub apart : (x : ℕ) → x < 256 → row_bit lower x ≡ true → row_bit greater x ≡ false
 

@@ -4,9 +4,9 @@
 use Prim.Native.Nat.{ℕ, ◌+◌, ◌*◌, ◌/◌, ◌%◌, ◌<◌}
 use mathlib.Core.Path.{◌≡◌, refl, ap, ◌∙◌}
 use native.Mathlib.Omega.{arith}
-use lib.ListN.{length, get_or}
+use lib.ListN.{get_or}
 use Rattle.laws.specs.Turn.{list_below}
-use Rattle.laws.proofs.Turn.{list_at, list_long}
+use Rattle.laws.proofs.Turn.{list_at}
 use Rattle.excitation.specs.Excitation.{levels_of}
 use Rattle.excitation.specs.Table.{start_of, join_at, join_entry, join_table, each_entry}
 use Rattle.excitation.specs.UncertaintySet.{code, decode, join_sets, each}
@@ -35,7 +35,3 @@ unfolding join_table
 join_at_lem by.And a b = third_at 0 a b (omega arith)
 join_at_lem by.Or a b = third_at 1 a b (omega arith)
 join_at_lem by.Xor a b = third_at 2 a b (omega arith)
-
-pub table_long : length join_table ≡ 768
-unfolding join_table
-table_long = list_long 768 join_entry

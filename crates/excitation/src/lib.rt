@@ -71,11 +71,16 @@ fn start_of(by: Join) -> usize
     }
 }
 
-// The table of set joins. Whoever joins many sets keeps this one and lends it.
-pub fn joins() -> [u8; 768]
-    ensures { result ≡ join_table }
-{
-    JOINS
+// The table of set joins: 256 entries for each of AND, OR and XOR. Whoever joins many sets keeps one and lends it.
+#[derive(Drop)]
+pub struct JoinTable {
+    entries: [u8; 768],
+    ghost right: { entries ≡ join_table },
+}
+
+// The table to keep.
+pub fn joins() -> JoinTable {
+    JoinTable { entries: JOINS }
 }
 
 // Document 01's uncertainty set, by its code as byte 18 has it. The four high bits say nothing.
@@ -100,15 +105,16 @@ pub fn single(e: Excitation) -> Set
 
 impl Set {
     // Every join of a member of each, by the lent table of joins.
-    pub fn join(self, other: Set, joins: &[u8], by: Join) -> Set
-        requires { joins.now ≡ join_table }
+    pub fn join(self, other: Set, joins: &JoinTable, by: Join) -> Set
         ensures { result.code ≡ code (join_sets (levels_of by) (decode self.code) (decode other.code)) }
     {
         let start = start_of(by);
         let first = self.code % 16;
         let second = other.code % 16;
         let entry: usize = start + 16 * (first as usize) + (second as usize);
-        Set { code: joins[entry] }
+        Set {
+            code: joins.entries[entry],
+        }
     }
 
     // Every member turned over: l and h change places, and so do hl and lh.

@@ -35,8 +35,8 @@ pub fn read_row(work: &[u8], net: usize, e: Excitation) -> [u64; 4]
 }
 
 // These are the ticks at which a net's sets have an excitation; its other members stay.
-pub fn write_row(work: &mut [u8], net: usize, e: Excitation, row: &[u64])
-    requires { HasRow work.old net × (length row.now ≡ 4) }
+pub fn write_row(work: &mut [u8], net: usize, e: Excitation, row: &[u64; 4])
+    requires { HasRow work.old net }
     ensures { RowWritten e net row.now work.old work.new }
 {
     let at = 160 * net + place(e);

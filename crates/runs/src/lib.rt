@@ -7,8 +7,8 @@ ghost use Rattle.bits.specs.Bits.{bit_at, row_bit};
 ghost use Rattle.runs.specs.Rows.{runs_in, NextAt, RangeSet};
 
 // The first tick, not before `from`, at which the row has this level; 256 where there is none.
-pub fn next_at(row: &[u64], from: usize, level: bool) -> usize
-    requires { (length row.now ≡ 4) × (from ≤ 256) }
+pub fn next_at(row: &[u64; 4], from: usize, level: bool) -> usize
+    requires { from ≤ 256 }
     ensures { NextAt level row.now from result }
 {
     let flip = if level { 0 } else { u64::MAX };
@@ -42,8 +42,8 @@ pub fn words_until(last: usize) -> usize
 
 // How many runs a row has that is the same after tick `last`: in each word the set bits whose bit before is clear are counted. None
 // begins after the tick that follows `last`.
-pub fn count_runs(row: &[u64], last: usize) -> usize
-    requires { (length row.now ≡ 4) × SettledAfter last (row_bit row.now) }
+pub fn count_runs(row: &[u64; 4], last: usize) -> usize
+    requires { SettledAfter last (row_bit row.now) }
     ensures { result ≡ length (runs_in row.now) }
 {
     let mut count: usize = 0;
@@ -75,8 +75,7 @@ pub fn ticks_before(tick: usize, w: usize) -> u64
 }
 
 // Sets the ticks of a row from tick `from` to before tick `to`.
-pub fn set_range(row: &mut [u64], from: usize, to: usize)
-    requires { length row.old ≡ 4 }
+pub fn set_range(row: &mut [u64; 4], from: usize, to: usize)
     ensures { RangeSet from to row.old row.new }
 {
     for (w, word) in row.iter_mut().enumerate() {

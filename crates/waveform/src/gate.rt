@@ -1,7 +1,6 @@
 // The waveform of a gate, from those of its pins.
 ghost use Rattle.std.specs.Prelude.{◌≡◌, ℕ, ◌-◌, ◌*◌, ◌≤◌, ◌<◌};
 ghost use Rattle.laws.specs.Settled.{SettledAfter};
-ghost use Rattle.excitation.specs.Table.{join_table};
 ghost use Rattle.excitation.specs.UncertaintySet.{decode};
 ghost use Rattle.parts.specs.Parts.{set_at};
 ghost use Rattle.rows.specs.Rows.{HasRow, set_in, RowMade};
@@ -11,7 +10,7 @@ ghost use Rattle.waveform.specs.Rows.{HasPinRows, latest_in, pins_last_in, LastC
 use super::joining::Function;
 use super::{joining, row};
 use block::{Gate, Net};
-use excitation::Set;
+use excitation::{JoinTable, Set};
 use parts::Part;
 
 // The greatest arrival of some nets, and the tick after which all of them stay the same.
@@ -114,8 +113,8 @@ fn last_change(work: &[u8], net: usize, end: Part, bound: usize, arrival: usize)
 
 // Makes the waveform of a gate. Its pins are the same after tick `last`: no part of their rows is joined that lies after the tick which
 // follows.
-pub fn gate_waveform(net: Net, gate: Gate, joins: &[u8], hops: usize, work: &mut [u8])
-    requires { Ready net.0 gate work.old × (1 ≤ hops) × (joins.now ≡ join_table) }
+pub fn gate_waveform(net: Net, gate: Gate, joins: &JoinTable, hops: usize, work: &mut [u8])
+    requires { Ready net.0 gate work.old × (1 ≤ hops) }
     ensures { GateMade net.0 gate hops work.old work.new }
 {
     let latest = latest_pin(gate, work);

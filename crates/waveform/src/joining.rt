@@ -2,7 +2,6 @@
 ghost use Rattle.std.specs.Prelude.{◌≡◌, ◌*◌, ◌<◌};
 ghost use Rattle.excitation.specs.Excitation.{levels_of};
 ghost use Rattle.excitation.specs.UncertaintySet.{decode};
-ghost use Rattle.excitation.specs.Table.{join_table};
 ghost use Rattle.block.specs.View.{pin_of};
 ghost use Rattle.parts.specs.Parts.{numbered};
 ghost use Rattle.rows.specs.Rows.{set_in};
@@ -11,7 +10,7 @@ ghost use Rattle.waveform.specs.Rows.{before_in, HasPinRows};
 
 use super::row;
 use block::Gate;
-use excitation::{Join, Set};
+use excitation::{Join, JoinTable, Set};
 use parts::Part;
 
 // The function of a gate: the number of the one by which it joins its pins, and whether the result is turned over.
@@ -23,8 +22,7 @@ pub struct Function {
 
 impl Function {
     // The function of a gate's kind.
-    pub fn of(gate: Gate, joins: &[u8]) -> Function
-        requires { joins.now ≡ join_table }
+    pub fn of(gate: Gate, joins: &JoinTable) -> Function
         ensures { FunctionOf gate result }
     {
         let rule = block::gate_rule(gate.kind);
@@ -37,8 +35,8 @@ impl Function {
 }
 
 // The join of the pins' sets before tick 0, left to right, by the table of joins.
-fn join_before(gate: Gate, work: &[u8], joins: &[u8], by: Join) -> Set
-    requires { HasPinRows work.now gate × (joins.now ≡ join_table) }
+fn join_before(gate: Gate, work: &[u8], joins: &JoinTable, by: Join) -> Set
+    requires { HasPinRows work.now gate }
     ensures { decode result.code ≡ joined_below (levels_of by) gate.used (λ p. before_in work.now (pin_of gate p)) }
 {
     let mut joined = row::set_before(work, gate.pins[0]);
@@ -50,8 +48,8 @@ fn join_before(gate: Gate, work: &[u8], joins: &[u8], by: Join) -> Set
 }
 
 // A gate's set before tick 0.
-pub fn gate_before(gate: Gate, work: &[u8], joins: &[u8]) -> Set
-    requires { HasPinRows work.now gate × (joins.now ≡ join_table) }
+pub fn gate_before(gate: Gate, work: &[u8], joins: &JoinTable) -> Set
+    requires { HasPinRows work.now gate }
     ensures { decode result.code ≡ made_before gate work.now }
 {
     let rule = block::gate_rule(gate.kind);

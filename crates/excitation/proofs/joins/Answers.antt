@@ -7,6 +7,6 @@ use Rattle.excitation.specs.Table.{join_entry, join_table}
 use Rattle.excitation.specs.UncertaintySet.{code, decode, member, join_sets}
 use Rattle.excitation.proofs.joins.Goals as goal
 
-pub returns : goal.returns
+pub invariant_of-result : goal.invariant_of-result
 unfolding join_table in_turn list_below join_entry xor code decode member join_sets
-returns c = refl
+invariant_of-result c = record { right = refl }

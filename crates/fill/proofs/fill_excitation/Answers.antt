@@ -6,8 +6,7 @@ use Rattle.fill.proofs.fill_excitation.Goals as goal
 
 pub count_runs-count-requires : goal.count_runs-count-requires
 count_runs-count-requires c =
-    let read = c.read_row-row.ensures in
-    (read.long, row_settled _ _ _ _ read _ c.requires.2)
+    row_settled _ _ _ _ c.read_row-row.ensures _ c.requires.2
 
 pub returns-then-count-hops : goal.returns-then-count-hops
 returns-then-count-hops c =

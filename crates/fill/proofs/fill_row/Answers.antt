@@ -9,19 +9,18 @@ use Rattle.fill.proofs.Filling.{filling_none, filling_more, one_fewer, filling_d
 use Rattle.fill.proofs.fill_row.Goals as goal
 
 pub loop-init : goal.loop-init
-loop-init c = (filling_none _ _ c.requires.0, omega arith)
+loop-init c = (filling_none _ _ (omega arith), omega arith)
 
 pub fill_shortest-requires : goal.fill_shortest-requires
 fill_shortest-requires c =
-    let some = c.requires.2 in
-    (c.loop.invariant.0.long, omega arith)
+    let some = c.requires.1 in omega arith
 
 pub loop-preserved : goal.loop-preserved
 loop-preserved c =
     let one = c.fill_shortest.ensures in
     let many : c.args.hops < length (runs_in c.loop.row) = omega arith in
-    let fewer = one_fewer _ _ _ c.loop.invariant.0 _ c.requires.2 many one in
-    (filling_more _ _ _ c.loop.invariant.0 _ c.requires.2 many one, omega arith)
+    let fewer = one_fewer _ _ _ c.loop.invariant.0 _ c.requires.1 many one in
+    (filling_more _ _ _ c.loop.invariant.0 _ c.requires.1 many one, omega arith)
 
 pub returns : goal.returns
 returns c = filling_done _ _ _ c.loop.invariant.0 (omega arith)

@@ -31,4 +31,4 @@ pub returns : goal.returns
 returns c =
     let all = length-take c.words_until.result c.args.row.now in
     c.loop-word.invariant.begun
-    ∙ settled_count (row_bit c.args.row.now) c.args.last c.requires.1 (64 * c.loop-word.word-index) (omega arith) (omega arith)
+    ∙ settled_count (row_bit c.args.row.now) c.args.last c.requires (64 * c.loop-word.word-index) (omega arith) (omega arith)

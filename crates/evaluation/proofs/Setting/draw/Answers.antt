@@ -3,10 +3,8 @@
 use Prim.Native.Nat.{◌<◌}
 use mathlib.Core.Path.{◌≡◌, refl, ap, sym, ◌∙◌}
 use native.Mathlib.Omega.{arith}
-use lib.ListN.{length}
 use Rattle.laws.specs.Below.{max_below}
 use Rattle.laws.proofs.Below.{max_next}
-use Rattle.excitation.proofs.Lookup.{table_long}
 use Rattle.excitation.specs.UncertaintySet.{sets_in}
 use Rattle.block.proofs.Accepted.{has_record}
 use Rattle.evaluation.specs.Evaluation.{HasRows}
@@ -40,9 +38,6 @@ loop-net-init c =
 pub gate-gate-requires : goal.gate-gate-requires
 gate-gate-requires c = has_record _ _ _ _ c.args.self.accepted (omega arith)
 
-pub slice_bounds-gate_waveform-end : goal.slice_bounds-gate_waveform-end
-slice_bounds-gate_waveform-end c = sym (ap length c.joins-joins.ensures ∙ table_long)
-
 pub gate_waveform-requires : goal.gate_waveform-requires
 gate_waveform-requires c =
     let g = c.requires.0 in
@@ -54,7 +49,7 @@ gate_waveform-requires c =
     let here : l.net < setting.nets = omega arith in
     let rows : HasRows l.work setting.nets = record { whole = omega (arith, g.rows.whole, begun, l.invariant.0); numbered = g.rows.numbered } in
     let read = c.gate-gate.ensures in
-    (next_ready file setting.nets setting.inputs c.args.self.accepted setting.hops sets l.invariant.1 (omega arith) (omega arith) here read rows, c.args.self.some_hops, c.joins-joins.ensures)
+    (next_ready file setting.nets setting.inputs c.args.self.accepted setting.hops sets l.invariant.1 (omega arith) (omega arith) here read rows, c.args.self.some_hops)
 
 pub draw_gate-requires : goal.draw_gate-requires
 draw_gate-requires c =

@@ -20,7 +20,7 @@ pub set_before-next-requires : goal.set_before-next-requires
 set_before-next-requires c =
     let pin = later_pins c.args.gate _ _ c.loop-source-test.true in
     let low : c.loop-source.source-index + 1 < c.args.gate.used = omega (arith, length-take (c.args.gate.used - 1) (drop 1 c.args.gate.pins)) in
-    subst (HasRow c.args.work.now) (sym pin) (c.requires.0.row (c.loop-source.source-index + 1) low)
+    subst (HasRow c.args.work.now) (sym pin) (c.requires.row (c.loop-source.source-index + 1) low)
 
 pub loop-source-preserved : goal.loop-source-preserved
 loop-source-preserved c =
@@ -32,5 +32,5 @@ loop-source-preserved c =
 
 pub returns : goal.returns
 returns c =
-    let all : c.loop-source.source-index + 1 ≡ c.args.gate.used = omega (arith, c.requires.0.some, c.requires.0.few, length-take (c.args.gate.used - 1) (drop 1 c.args.gate.pins), length-drop 1 c.args.gate.pins) in
+    let all : c.loop-source.source-index + 1 ≡ c.args.gate.used = omega (arith, c.requires.some, c.requires.few, length-take (c.args.gate.used - 1) (drop 1 c.args.gate.pins), length-drop 1 c.args.gate.pins) in
     rw all at c.loop-source.invariant
