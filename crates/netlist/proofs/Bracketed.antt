@@ -5,7 +5,7 @@ use mathlib.Core.Bool.{Bool, true, false}
 use mathlib.Core.List.{List, [], ◌∷◌, ◌++◌, append_assoc}
 use mathlib.Core.Path.{◌≡◌, refl, ap, sym, ◌∙◌}
 use native.Mathlib.Omega.{arith}
-use lib.ListN.{length, drop, set, length-append}
+use lib.ListN.{length, set, length-append}
 use borrow.Author.Tests.{le-leb, lt-leb}
 use borrow.Table.Steps.{cases}
 use Rattle.std.proofs.Common.{Some, None}
@@ -19,7 +19,7 @@ use Rattle.netlist.specs.Names.{Letters, is_letter_or_digit, is_name, are_names}
 use Rattle.netlist.specs.Forms.{Part, part, parts_of, begun_by, ended, closed, bracketed}
 use Rattle.netlist.specs.Kept.{name_kept, word_kept, four_kept, brackets_right, brackets_kept, no_name, names_kept, PieceRead}
 use Rattle.netlist.proofs.KnownWords.{names_append}
-use Rattle.netlist.proofs.Parts.{parts_from, piece_parts}
+use Rattle.netlist.proofs.Parts.{parts_in, piece_parts}
 
 -- One name more among the first four.
 four_more : (words : List Letters) (letters : Letters) → length words < 4
@@ -72,45 +72,44 @@ right_kept_lem : (parts : List Part) (words : List Letters) → closed parts ≡
 unfolding brackets_kept brackets_right
 right_kept_lem parts words e b n h = rw (e, b, n, le-leb (length words) 4 h) refl
 
--- What is read after a bracket: names, and the rest of it goes on from `at` on.
-pub record NamesSoFar (line : List ℕ) (from : ℕ) (names : List Name) (used at : ℕ) : Type 0 where
+-- What is read after a bracket: names, and `rest` is left.
+pub record NamesSoFar (line : List ℕ) (names : List Name) (used : ℕ) (rest : List ℕ) : Type 0 where
   pub words : List Letters
   pub many : length words ≡ used
   pub proper : are_names words ≡ true
   pub kept : names ≡ four_kept words
-  pub closes : closed (parts_from line from) ≡ closed (parts_from line at)
-  pub goes_on : bracketed (parts_from line from) ≡ words ++ bracketed (parts_from line at)
-  pub inside : at ≤ length line
+  pub closes : closed (parts_in line) ≡ closed (parts_in rest)
+  pub goes_on : bracketed (parts_in line) ≡ words ++ bracketed (parts_in rest)
 
-pub names_none : (line : List ℕ) (from : ℕ) (name : Name) → (name.first ≡ 0) × (name.second ≡ 0) → from ≤ length line
-    → NamesSoFar line from (name ∷ name ∷ name ∷ name ∷ []) 0 from
+pub names_none : (line : List ℕ) (name : Name) → (name.first ≡ 0) × (name.second ≡ 0)
+    → NamesSoFar line (name ∷ name ∷ name ∷ name ∷ []) 0 line
 unfolding are_names four_kept
-names_none line from name e h =
+names_none line name e =
     let is : record { first = name.first; second = name.second } ≡ no_name = rw (e.0, e.1) refl in
     let none : name ≡ no_name = is in
-    record { words = []; many = refl; proper = refl; kept = rw none refl; closes = refl; goes_on = refl; inside = h }
+    record { words = []; many = refl; proper = refl; kept = rw none refl; closes = refl; goes_on = refl }
 
-module _ (line : List ℕ) (from : ℕ) (names : List Name) (used at : ℕ) (s : NamesSoFar line from names used at) where
-  pub names_many : 4 ≤ used → None ≡ brackets_kept (parts_from line from)
+module _ (line : List ℕ) (names : List Name) (used : ℕ) (rest : List ℕ) (s : NamesSoFar line names used rest) where
+  pub names_many : 4 ≤ used → None ≡ brackets_kept (parts_in line)
   names_many h =
-      too_many (parts_from line from)
+      too_many (parts_in line)
       (omega (
         arith,
-        ap length s.goes_on ∙ length-append s.words (bracketed (parts_from line at)),
+        ap length s.goes_on ∙ length-append s.words (bracketed (parts_in rest)),
         s.many,
-        words_some (parts_from line at) (parts_some (content (drop at line))),
+        words_some (parts_in rest) (parts_some (content rest)),
       ))
 
-  module _ (piece : Piece) (r : PieceRead line at piece) where
-    pub names_wrong : is_name r.letters ≡ false → None ≡ brackets_kept (parts_from line from)
+  module _ (piece : Piece) (r : PieceRead rest piece) where
+    pub names_wrong : is_name r.letters ≡ false → None ≡ brackets_kept (parts_in line)
     unfolding bracketed are_names
     names_wrong e =
-        not_names (parts_from line from)
-        (ap are_names s.goes_on ∙ names_append s.words (bracketed (parts_from line at))
+        not_names (parts_in line)
+        (ap are_names s.goes_on ∙ names_append s.words (bracketed (parts_in rest))
         ∙ and_second_fails (are_names s.words) (ap (λ parts. are_names (bracketed parts)) r.is ∙ and_first_fails _ e))
 
-    pub names_stop : closed (part r.letters piece.mark ∷ r.rest) ≡ false → None ≡ brackets_kept (parts_from line from)
-    names_stop e = not_closed (parts_from line from) (s.closes ∙ ap closed r.is ∙ e)
+    pub names_stop : closed (part r.letters piece.mark ∷ r.rest) ≡ false → None ≡ brackets_kept (parts_in line)
+    names_stop e = not_closed (parts_in line) (s.closes ∙ ap closed r.is ∙ e)
 
     -- The names with this one.
     module _ (few : used < 4) (named : is_name r.letters ≡ true) where
@@ -128,10 +127,10 @@ module _ (line : List ℕ) (from : ℕ) (names : List Name) (used at : ℕ) (s :
       unfolding word_kept
       kept_more = rw (s.kept, ← s.many, ap (λ word. word.name) r.word) (four_more s.words r.letters (omega (arith, s.many)))
 
-      pub names_more : piece.mark ≡ Comma → NamesSoFar line from (set names used piece.word.name) (used + 1) piece.next
+      pub names_more : piece.mark ≡ Comma → NamesSoFar line (set names used piece.word.name) (used + 1) piece.rest.now
       unfolding closed bracketed
       names_more m =
-          let parts = piece_parts line at piece r Comma refl m in
+          let parts = piece_parts rest piece r Comma refl m in
           record {
             words = words';
             many = many_more;
@@ -139,22 +138,21 @@ module _ (line : List ℕ) (from : ℕ) (names : List Name) (used at : ℕ) (s :
             kept = kept_more;
             closes = s.closes ∙ ap closed parts;
             goes_on = s.goes_on ∙ ap (λ parts. s.words ++ bracketed parts) parts
-                ∙ sym (append_assoc s.words (r.letters ∷ []) (bracketed (parts_from line piece.next)));
-            inside = r.inside;
+                ∙ sym (append_assoc s.words (r.letters ∷ []) (bracketed (parts_in piece.rest.now)));
           }
 
       module _ (m : piece.mark ≡ Close) where
-        last : closed (parts_from line from) ≡ ended (parts_from line piece.next)
+        last : closed (parts_in line) ≡ ended (parts_in piece.rest.now)
         unfolding closed
-        last = s.closes ∙ ap closed (piece_parts line at piece r Close refl m)
+        last = s.closes ∙ ap closed (piece_parts rest piece r Close refl m)
 
         -- The other bracket has come: the names are right if it is the last of the line.
-        pub names_closed : (end : Bool) → end ≡ ended (parts_from line piece.next)
-            → then_some end (record { used = used + 1; names = set names used piece.word.name }) ≡ brackets_kept (parts_from line from)
+        pub names_closed : (end : Bool) → end ≡ ended (parts_in piece.rest.now)
+            → then_some end (record { used = used + 1; names = set names used piece.word.name }) ≡ brackets_kept (parts_in line)
         unfolding bracketed
-        names_closed false e = not_closed (parts_from line from) (last ∙ sym e)
+        names_closed false e = not_closed (parts_in line) (last ∙ sym e)
         names_closed true e =
-            let all : bracketed (parts_from line from) ≡ words' =
-            s.goes_on ∙ ap (λ parts. s.words ++ bracketed parts) (piece_parts line at piece r Close refl m) in
+            let all : bracketed (parts_in line) ≡ words' =
+            s.goes_on ∙ ap (λ parts. s.words ++ bracketed parts) (piece_parts rest piece r Close refl m) in
             rw (kept_more, ← many_more)
-            (right_kept_lem (parts_from line from) words' (last ∙ sym e) all proper_more (omega (arith, many_more)))
+            (right_kept_lem (parts_in line) words' (last ∙ sym e) all proper_more (omega (arith, many_more)))

@@ -101,12 +101,11 @@ pub record LineAt (text : List ℕ) (at : ℕ) (span : Span) : Type 0 where
   pub on : at < span.next
   pub inside : span.next ≤ length text
 
--- The piece of a line that starts at byte `from`, read: the first part of the content from there on, and where the next one starts.
-pub record PieceRead (line : List ℕ) (from : ℕ) (piece : Piece) : Type 0 where
+-- The piece that a line starts with, read: the first part of its content, and what is left of the line after it.
+pub record PieceRead (line : List ℕ) (piece : Piece) : Type 0 where
   pub letters : Letters
   pub rest : List Part
-  pub is : parts_of (content (drop from line)) ≡ part letters piece.mark ∷ rest
+  pub is : parts_of (content line) ≡ part letters piece.mark ∷ rest
   pub word : piece.word ≡ word_kept letters
   pub proper : lettered letters ≡ true
-  pub goes_on : is_end piece.mark ≡ false → rest ≡ parts_of (content (drop piece.next line))
-  pub inside : piece.next ≤ length line
+  pub goes_on : is_end piece.mark ≡ false → rest ≡ parts_of (content piece.rest.now)

@@ -36,12 +36,12 @@ pub enum Mark {
     End,
 }
 
-// A word, the mark after it, and where the line goes on.
+// A word, the mark after it, and what is left of the line after that.
 #[derive(Clone, Copy)]
-pub struct Piece {
+pub struct Piece<'a> {
     pub word: Word,
     pub mark: Mark,
-    pub next: usize,
+    pub rest: &'a [u8],
 }
 
 // Names in brackets: how many of the four places are used, and each of the names.
@@ -122,12 +122,11 @@ pub fn line_at(text: &[u8], at: usize) -> Span
     }
 }
 
-// INPUT or OUTPUT, by the number of the word, from the word before the bracket and where the line goes on after it.
-fn declaration(line: &[u8], word: Word, at: usize) -> Option<Line>
-    requires { at ≤ length line.now }
-    ensures { OfLetters word (λ letters. result ≡ line_kept (declared letters (parts_of (content (drop at line.now))))) }
+// INPUT or OUTPUT, by the number of the word, from the word before the bracket and what is left of the line after it.
+fn declaration(word: Word, rest: &[u8]) -> Option<Line>
+    ensures { OfLetters word (λ letters. result ≡ line_kept (declared letters (parts_of (content rest.now)))) }
 {
-    let names = brackets::read_names(line, at)?;
+    let names = brackets::read_names(rest)?;
     if names.used != 1 {
         return None;
     }
@@ -138,16 +137,15 @@ fn declaration(line: &[u8], word: Word, at: usize) -> Option<Line>
     }
 }
 
-// A gate, from its name and where the line goes on after the `=`.
-fn assignment(line: &[u8], name: Word, at: usize) -> Option<Line>
-    requires { at ≤ length line.now }
-    ensures { OfLetters name (λ letters. result ≡ line_kept (assigned letters (parts_of (content (drop at line.now))))) }
+// A gate, from its name and what is left of the line after the `=`.
+fn assignment(name: Word, rest: &[u8]) -> Option<Line>
+    ensures { OfLetters name (λ letters. result ≡ line_kept (assigned letters (parts_of (content rest.now)))) }
 {
-    let piece = pieces::read_piece(line, at);
+    let piece = pieces::read_piece(rest);
     let Mark::Open = piece.mark else {
         return None;
     };
-    let pins = brackets::read_names(line, piece.next)?;
+    let pins = brackets::read_names(piece.rest)?;
     let kind = piece.word.kind()?;
     let right = name.is_name() & words::pin_count_right(kind, pins.used);
     right.then_some(Line::Gate(GateLine {
@@ -161,11 +159,11 @@ fn assignment(line: &[u8], name: Word, at: usize) -> Option<Line>
 pub fn read_line(line: &[u8]) -> Option<Line>
     ensures { result ≡ line_kept (line_form line.now) }
 {
-    let first = pieces::read_piece(line, 0);
+    let first = pieces::read_piece(line);
     match first.mark {
         Mark::End => (first.word.length == 0).then_some(Line::Nothing),
-        Mark::Open => declaration(line, first.word, first.next),
-        Mark::Equals => assignment(line, first.word, first.next),
+        Mark::Open => declaration(first.word, first.rest),
+        Mark::Equals => assignment(first.word, first.rest),
         Mark::Comma | Mark::Close | Mark::Other => None,
     }
 }

@@ -8,10 +8,10 @@ use mathlib.Core.Path.{◌≡◌, refl, sym, ◌∙◌}
 use native.Mathlib.Omega.{arith}
 use lib.Dec.{ltb}
 use lib.ListN.{length, take, drop, length-drop, drop_of_length-le}
-use lib.Seq.{take-length, drop-drop}
+use lib.Seq.{drop-drop}
 use borrow.Author.Tests.{ltb-true, ltb-false}
 use borrow.Table.Steps.{cases}
-use Rattle.std.proofs.lemmas.List.{take_all}
+use Rattle.std.proofs.lemmas.List.{take_all, take_rest}
 use Rattle.netlist.specs.Lines.{lines_of}
 use Rattle.netlist.proofs.Parts.{line_length, lines_first}
 use Rattle.netlist.proofs.line_at.Goals as goal
@@ -28,10 +28,6 @@ none_found place size e =
     cases (ltb place size)
     (λ t. let told = rw t at e in cc)
     (λ t. ltb-false place size t)
-
--- The rest of a text from a byte on, as the range says it.
-rest_is : (text : List ℕ) (at : ℕ) → take (length text - at) (drop at text) ≡ drop at text
-rest_is text at = let size : length (drop at text) ≡ length text - at = length-drop at text in rw (← size) (take-length (drop at text))
 
 -- The line up to where the search for its end stops, and the lines after it.
 line_is : (text : List ℕ) (at end : ℕ) → at < length text → end ≡ at + line_length (drop at text)
@@ -50,7 +46,7 @@ line_end text at h past =
     let more : length (drop at text) ≤ end - at = omega (arith, length-drop at text) in
     line_is text at end h refl
     ∙ rw (
-      rest_is text at,
+      take_rest text at,
       take_all _ (drop at text) more,
       drop_of_length-le text {i = end + 1} (omega arith),
       drop_of_length-le text {i = length text} (omega arith),
@@ -62,7 +58,7 @@ returns-in-Some c =
     let text = c.args.text.now in
     let at = c.args.at in
     let ends =
-    found (line_length (drop at text)) (length (drop at text)) (sym (rw (rest_is text at) at c.in-Some.ensures)) in
+    found (line_length (drop at text)) (length (drop at text)) (sym (rw (take_rest text at) at c.in-Some.ensures)) in
     let inside : c.in-Some.before < length text - at = omega (arith, ends, length-drop at text) in
     record {
       is = line_is text at (at + c.in-Some.before) c.requires (rw ends.0 refl);
@@ -77,7 +73,7 @@ returns-in-None c =
     let text = c.args.text.now in
     let at = c.args.at in
     let ends =
-    none_found (line_length (drop at text)) (length (drop at text)) (sym (rw (rest_is text at) at c.in-None.ensures)) in
+    none_found (line_length (drop at text)) (length (drop at text)) (sym (rw (take_rest text at) at c.in-None.ensures)) in
     let past : length text ≤ at + line_length (drop at text) = omega (arith, ends, length-drop at text) in
     record {
       is = line_end text at c.requires past;

@@ -24,33 +24,33 @@ stops mark (inr (inr (inl e))) word rest = rw e refl
 stops mark (inr (inr (inr e))) word rest = rw e refl
 
 pub loop-passed-init : goal.loop-passed-init
-loop-passed-init c = names_none _ _ _ c.default-names.ensures c.requires
+loop-passed-init c = names_none _ _ c.default-names.ensures
 
 pub returns-then-not-is_name : goal.returns-then-not-is_name
 returns-then-not-is_name c =
     let read = c.read_piece-piece in
-    names_wrong _ _ _ _ _ c.loop-passed.invariant read.result read.ensures
+    names_wrong _ _ _ _ c.loop-passed.invariant read.result read.ensures
     (sym (of_piece _ read.ensures c.is_name.ensures) ∙ c.if-not-is_name.true)
 
 pub loop-passed-preserved : goal.loop-passed-preserved
 loop-passed-preserved c =
     let read = c.read_piece-piece in
-    names_more _ _ _ _ _ c.loop-passed.invariant read.result read.ensures (omega arith)
+    names_more _ _ _ _ c.loop-passed.invariant read.result read.ensures (omega arith)
     (sym (of_piece _ read.ensures c.is_name.ensures) ∙ c.if-not-is_name.false) c.in-Comma.is
 
 pub returns-in-Close : goal.returns-in-Close
 returns-in-Close c =
     let read = c.read_piece-piece in
     c.then_some.ensures
-    ∙ names_closed _ _ _ _ _ c.loop-passed.invariant read.result read.ensures (omega arith)
+    ∙ names_closed _ _ _ _ c.loop-passed.invariant read.result read.ensures (omega arith)
     (sym (of_piece _ read.ensures c.is_name.ensures) ∙ c.if-not-is_name.false)
     c.in-Close.is c.ended.result c.ended.ensures
 
 pub returns-in-Equals : goal.returns-in-Equals
 returns-in-Equals c =
     let read = c.read_piece-piece in
-    names_stop _ _ _ _ _ c.loop-passed.invariant read.result read.ensures
+    names_stop _ _ _ _ c.loop-passed.invariant read.result read.ensures
     (stops read.result.mark c.in-Equals.is _ _)
 
 pub returns : goal.returns
-returns c = names_many _ _ _ _ _ c.loop-passed.invariant (omega arith)
+returns c = names_many _ _ _ _ c.loop-passed.invariant (omega arith)

@@ -4,4 +4,4 @@ use Rattle.netlist.proofs.Bracketed.{NamesSoFar}
 use Rattle.netlist.proofs.brackets.read_names.Given as goal
 
 abbrev pub invariant-loop-passed : goal.invariant-loop-passed
-invariant-loop-passed l = NamesSoFar l.line l.from l.names l.passed l.at
+invariant-loop-passed l = NamesSoFar l.line l.names l.passed l.rest
