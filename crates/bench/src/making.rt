@@ -17,8 +17,8 @@ fn bytes_of(net: u16) -> [u8; 2]
 }
 
 // The record of a gate, with the row of its kind.
-pub fn gate_record(list: &[u8], kind: usize, used: usize, nets: [u16; 4]) -> [u8; 20]
-    requires { (length list.now ≡ 64) × (2 ≤ kind) × (kind ≤ 9) × (used ≤ 4) }
+pub fn gate_record(list: &[u8; 64], kind: usize, used: usize, nets: [u16; 4]) -> [u8; 20]
+    requires { (2 ≤ kind) × (kind ≤ 9) × (used ≤ 4) }
     ensures { result ≡ gate_record list.now kind used (λ p. get_or nets p 0) }
 {
     let row = 8 * (kind - 2);

@@ -23,8 +23,8 @@ impl Table {
     }
 
     // Takes the line of a gate that has passed check 17 by itself.
-    fn take_gate(&mut self, gate: GateLine, number: usize, list: &[u8]) -> Result<(), Refusal>
-        requires { (self.old.count < 1024) × (length list.now ≡ 64) × (2 ≤ gate.kind) × (gate.kind ≤ 9) × (gate.pins.used ≤ 4) }
+    fn take_gate(&mut self, gate: GateLine, number: usize, list: &[u8; 64]) -> Result<(), Refusal>
+        requires { (self.old.count < 1024) × (2 ≤ gate.kind) × (gate.kind ≤ 9) × (gate.pins.used ≤ 4) }
         ensures { GateTaken gate number list.now self.old self.new result }
     {
         let place = number as u64;
@@ -42,8 +42,8 @@ impl Table {
     }
 
     // Takes a line.
-    fn take_line(&mut self, bytes: &[u8], number: usize, list: &[u8]) -> Result<(), Refusal>
-        requires { (self.old.count < 1024) × (length list.now ≡ 64) }
+    fn take_line(&mut self, bytes: &[u8], number: usize, list: &[u8; 64]) -> Result<(), Refusal>
+        requires { self.old.count < 1024 }
         ensures { LineRead (line_form bytes.now) number list.now self.old self.new result }
     {
         let wrong = Refusal {
@@ -59,8 +59,8 @@ impl Table {
 }
 
 // Takes lines from the first on, up to the 1,024th record.
-fn begin(text: &[u8], list: &[u8], table: &mut Table) -> Result<Progress, Refusal>
-    requires { (length list.now ≡ 64) × (table.old.count ≡ 0) × (table.old.gates ≡ false) }
+fn begin(text: &[u8], list: &[u8; 64], table: &mut Table) -> Result<Progress, Refusal>
+    requires { (table.old.count ≡ 0) × (table.old.gates ≡ false) }
     ensures { Begun text.now list.now table.new result }
 {
     let mut at: usize = 0;
@@ -76,8 +76,8 @@ fn begin(text: &[u8], list: &[u8], table: &mut Table) -> Result<Progress, Refusa
 }
 
 // Takes all lines of a text. Those after the 1,024th record are judged too; one of them that gives a record makes the text too long.
-pub fn take_text(text: &[u8], list: &[u8], table: &mut Table) -> Result<(), Refusal>
-    requires { (length list.now ≡ 64) × (table.old.count ≡ 0) × (table.old.gates ≡ false) }
+pub fn take_text(text: &[u8], list: &[u8; 64], table: &mut Table) -> Result<(), Refusal>
+    requires { (table.old.count ≡ 0) × (table.old.gates ≡ false) }
     ensures { TextTaken text.now list.now table.new result }
 {
     let progress = begin(text, list, table)?;

@@ -20,7 +20,7 @@ take_gate-requires c =
     let fits = gate_told (λ form. (2 ≤ given.kind) × (given.kind ≤ 9) × (given.pins.used ≤ 4)) form right.0 (sym c.in-Gate.is ∙ right.1)
     (λ name word pins fits same.
     rw same (gate_kind name word pins fits, kind_high word, gate_few name word pins fits)) in
-    (c.requires.0, c.requires.1, fits.0, fits.1, fits.2)
+    (c.requires, fits.0, fits.1, fits.2)
 
 pub returns-in_err-ok_or : goal.returns-in_err-ok_or
 returns-in_err-ok_or c names held =

@@ -6,7 +6,7 @@ use Rattle.bench.proofs.Lines.{none_taken, taken_refused, taken_next}
 use Rattle.bench.proofs.walk.begin.Goals as goal
 
 pub loop-at-init : goal.loop-at-init
-loop-at-init c = none_taken _ _ _ c.requires.1 c.requires.2
+loop-at-init c = none_taken _ _ _ c.requires.0 c.requires.1
 
 pub returns-in_err-take_line : goal.returns-in_err-take_line
 returns-in_err-take_line c =
