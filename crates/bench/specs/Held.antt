@@ -1,5 +1,6 @@
 -- What the code holds of a text while it goes through the lines, and what its functions promise.
 use Rattle.std.specs.Prelude.{ℕ, ◌+◌, ◌*◌, ◌≤◌, ◌<◌, Bool, true, false, cond, ◌&&◌, ◌||◌, Option, Some, None, List, [], ◌∷◌, ◌++◌, map, ◌≡◌, leb, length, take, drop, Result, Ok, Err}
+use Rattle.arrayvec.specs.ArrayVec.{ArrayVec}
 use Rattle.block.specs.Refusals.{read_checks}
 use Rattle.block.specs.Verdict.{verdict, Verdict, Accepted}
 use Rattle.block.specs.declared.verdict.Refusal.{Refusal}
@@ -11,7 +12,6 @@ use Rattle.netlist.specs.declared.GateLine.{GateLine}
 use Rattle.netlist.specs.declared.Line.{Line}
 use Rattle.netlist.specs.declared.Line.TheVariants as line
 use Rattle.netlist.specs.declared.Name.{Name}
-use Rattle.netlist.specs.declared.Names.{Names}
 use Rattle.bench.specs.declared.Earlier.{Earlier}
 use Rattle.bench.specs.declared.Progress.{Progress}
 use Rattle.bench.specs.declared.Table.{Table}
@@ -36,7 +36,7 @@ unfoldable pub four_nets : List Letters → List Letters → List ℕ
 four_nets names pins = pin_net names pins 0 ∷ pin_net names pins 1 ∷ pin_net names pins 2 ∷ pin_net names pins 3 ∷ []
 
 -- The pins of a gate, looked up: their nets, if all are known.
-abbrev pub PinsPlaced : List Name → Names → Option (List ℕ) → Type 0
+abbrev pub PinsPlaced : List Name → ArrayVec Name → Option (List ℕ) → Type 0
 PinsPlaced kept pins nets =
     (names : List Letters) (words : List Letters) → Held names kept → are_names words ≡ true → pins ≡ names_kept words
     → nets ≡ cond (all_known words names) (Some (four_nets names words)) None
@@ -95,12 +95,6 @@ gives (Some line.Nothing) name = false
 gives (Some (line.Input given)) name = same_name given name
 gives (Some (line.Gate given)) name = same_name given.name name
 
--- A line as it is kept has four pins at most.
-abbrev pub FewPins : Line → Type 0
-FewPins line.Nothing = 0 ≤ 4
-FewPins (line.Input name) = 0 ≤ 4
-FewPins (line.Gate given) = given.pins.used ≤ 4
-
 -- Whether one of some lines that are right gives a name.
 abbrev pub GivenIn : List Form → Name → Bool → Type 0
 GivenIn forms name r = (word : Letters) → is_name word ≡ true → name ≡ name_kept word → all_right forms ≡ true → r ≡ known word (names_of forms)
@@ -115,10 +109,10 @@ KnownIn forms kept name r =
     (names : List Letters) (word : Letters) → Held names kept → all_right forms ≡ true → is_name word ≡ true
     → name ≡ name_kept word → r ≡ known word (names ++ names_of forms)
 
-abbrev pub AllKnownIn : List Form → List Name → Names → Bool → Type 0
+abbrev pub AllKnownIn : List Form → List Name → List Name → Bool → Type 0
 AllKnownIn forms kept pins r =
     (names : List Letters) (words : List Letters) → Held names kept → all_right forms ≡ true → are_names words ≡ true
-    → pins ≡ names_kept words → r ≡ all_known words (names ++ names_of forms)
+    → pins ≡ map name_kept words → r ≡ all_known words (names ++ names_of forms)
 
 abbrev pub JudgedIn : List Form → List Name → Line → ℕ → Bool → Verdict → Type 0
 JudgedIn forms kept given number gates r =

@@ -2,12 +2,12 @@
 // a record is refused in any case.
 ghost use Rattle.std.specs.Prelude.{◌≡◌, ◌+◌, ◌≤◌, length, drop};
 ghost use Rattle.netlist.specs.Forms.{forms_of};
-ghost use Rattle.bench.specs.Held.{gives, forms_before, FewPins, GivenIn, KnownIn, AllKnownIn, JudgedIn, JudgedLater};
+ghost use Rattle.bench.specs.Held.{gives, forms_before, GivenIn, KnownIn, AllKnownIn, JudgedIn, JudgedLater};
 
 use super::lookup;
 use crate::Earlier;
 use block::{Reason, Refusal, check};
-use netlist::{Line, Name, Names};
+use netlist::{Line, Name};
 
 // Whether a line gives a name.
 fn gives(line: Option<Line>, name: Name) -> bool
@@ -47,12 +47,11 @@ impl Earlier<'_> {
     }
 
     // Whether all pins of a gate are known.
-    fn knows_all(&self, pins: Names) -> bool
-        requires { pins.used ≤ 4 }
-        ensures { AllKnownIn (forms_before self.now) self.now.names.now pins result }
+    fn knows_all(&self, pins: &[Name]) -> bool
+        ensures { AllKnownIn (forms_before self.now) self.now.names.now pins.now result }
     {
-        for p in 0..pins.used {
-            if !self.knows(pins.names[p]) {
+        for pin in pins {
+            if !self.knows(*pin) {
                 return false;
             }
         }
@@ -60,21 +59,20 @@ impl Earlier<'_> {
     }
 
     // Judges a line that has passed check 17 by itself.
-    fn judge(&self, line: Line, number: usize, gates: bool) -> Result<(), Refusal>
-        requires { FewPins line }
-        ensures { JudgedIn (forms_before self.now) self.now.names.now line number gates result }
+    fn judge(&self, line: &Line, number: usize, gates: bool) -> Result<(), Refusal>
+        ensures { JudgedIn (forms_before self.now) self.now.names.now line.now number gates result }
     {
         let place = number as u64;
         match line {
             Line::Nothing => Ok(()),
             Line::Input(name) => {
-                let new = !self.knows(name);
+                let new = !self.knows(*name);
                 check(Reason::WrongLine, place, !gates)?;
                 check(Reason::WrongName, place, new)
             }
             Line::Gate(gate) => {
                 let new = !self.knows(gate.name);
-                let found = self.knows_all(gate.pins);
+                let found = self.knows_all(&gate.pins);
                 check(Reason::WrongName, place, new & found)
             }
         }
@@ -110,7 +108,7 @@ pub fn judge_later(
             from,
             lines: passed,
         };
-        earlier.judge(line, number + passed, after)?;
+        earlier.judge(&line, number + passed, after)?;
         at = span.next;
         passed += 1;
         after |= line.is_gate();

@@ -23,19 +23,19 @@ impl Table {
     }
 
     // Takes the line of a gate that has passed check 17 by itself.
-    fn take_gate(&mut self, gate: GateLine, number: usize, list: &[u8; 64]) -> Result<(), Refusal>
-        requires { (self.old.count < 1024) × (2 ≤ gate.kind) × (gate.kind ≤ 9) × (gate.pins.used ≤ 4) }
-        ensures { GateTaken gate number list.now self.old self.new result }
+    fn take_gate(&mut self, gate: &GateLine, number: usize, list: &[u8; 64]) -> Result<(), Refusal>
+        requires { self.old.count < 1024 }
+        ensures { GateTaken gate.now number list.now self.old self.new result }
     {
         let place = number as u64;
         let unknown = Refusal {
             reason: Reason::WrongName,
             place,
         };
-        let nets = lookup::pin_nets(self.held(), gate.pins).ok_or(unknown)?;
+        let nets = lookup::pin_nets(self.held(), &gate.pins).ok_or(unknown)?;
         let again = lookup::position(self.held(), gate.name).is_some();
         check(Reason::WrongName, place, !again)?;
-        let record = making::gate_record(list, gate.kind, gate.pins.used, nets);
+        let record = making::gate_record(list, gate, nets);
         self.add(gate.name, record);
         self.gates = true;
         Ok(())
@@ -53,7 +53,7 @@ impl Table {
         match netlist::read_line(bytes).ok_or(wrong)? {
             Line::Nothing => Ok(()),
             Line::Input(name) => self.take_input(name, number),
-            Line::Gate(gate) => self.take_gate(gate, number, list),
+            Line::Gate(gate) => self.take_gate(&gate, number, list),
         }
     }
 }

@@ -1,10 +1,10 @@
 -- How the code keeps words, names and lines, and what its functions promise of them.
 use Rattle.std.specs.Prelude.{ℕ, ◌+◌, ◌-◌, ◌*◌, ◌≤◌, ◌<◌, min, Bool, true, false, cond, ◌&&◌, Option, Some, None, List, [], ◌∷◌, map, reverse, ◌≡◌, leb, eqb, length, get_or, take, drop}
+use Rattle.arrayvec.specs.ArrayVec.{ArrayVec}
 use Rattle.netlist.specs.declared.GateLine.{GateLine}
 use Rattle.netlist.specs.declared.Line.{Line}
 use Rattle.netlist.specs.declared.Line.TheVariants.{Nothing, Input, Gate}
 use Rattle.netlist.specs.declared.Name.{Name}
-use Rattle.netlist.specs.declared.Names.{Names}
 use Rattle.netlist.specs.declared.Piece.{Piece}
 use Rattle.netlist.specs.declared.Span.{Span}
 use Rattle.netlist.specs.declared.Word.{Word}
@@ -48,22 +48,15 @@ same_name a b = eqb a.first b.first && eqb a.second b.second
 abbrev pub no_name : Name
 no_name = record { first = 0; second = 0 }
 
--- The first four of the names, and none past them.
-abbrev pub kept_at : List Letters → ℕ → Name
-kept_at words p = get_or (map name_kept words) p no_name
-
-unfoldable pub four_kept : List Letters → List Name
-four_kept words = kept_at words 0 ∷ kept_at words 1 ∷ kept_at words 2 ∷ kept_at words 3 ∷ []
-
 -- Words in brackets that a line may have: names, four at most.
 unfoldable pub brackets_right : List Part → Bool
 brackets_right parts = closed parts && (are_names (bracketed parts) && leb (length (bracketed parts)) 4)
 
--- They are kept with how many they are.
-abbrev pub names_kept : List Letters → Names
-names_kept words = record { used = length words; names = four_kept words }
+-- They are kept in their order.
+abbrev pub names_kept : List Letters → ArrayVec Name
+names_kept words = record { items = map name_kept words }
 
-unfoldable pub brackets_kept : List Part → Option Names
+unfoldable pub brackets_kept : List Part → Option (ArrayVec Name)
 brackets_kept parts = cond (brackets_right parts) (Some (names_kept (bracketed parts))) None
 
 -- A gate is kept with its kind, its name and its pins.

@@ -4,7 +4,7 @@ ghost use Rattle.netlist.specs.Lines.{content};
 ghost use Rattle.netlist.specs.Forms.{parts_of, ended};
 ghost use Rattle.netlist.specs.Kept.{brackets_kept};
 
-use super::{Mark, Name, Names, pieces};
+use super::{Mark, Names, pieces};
 
 // Whether nothing more stands on a line.
 fn ended(line: &[u8]) -> bool
@@ -22,21 +22,18 @@ fn ended(line: &[u8]) -> bool
 pub fn read_names(line: &[u8]) -> Option<Names>
     ensures { result ≡ brackets_kept (parts_of (content line.now)) }
 {
-    let mut names = [Name::default(); 4];
+    let mut names = Names::new();
     let mut rest = line;
-    for passed in 0..4 {
+    while !names.is_full() {
         let piece = pieces::read_piece(rest);
         if !piece.word.is_name() {
             return None;
         }
-        names[passed] = piece.word.name;
+        names.push(piece.word.name);
         rest = piece.rest;
         match piece.mark {
             Mark::Comma => {}
-            Mark::Close => {
-                let used = passed + 1;
-                return ended(rest).then_some(Names { used, names });
-            }
+            Mark::Close => return ended(rest).then_some(names),
             Mark::Equals | Mark::Open | Mark::Other | Mark::End => return None,
         }
     }

@@ -7,6 +7,8 @@ ghost use Rattle.netlist.specs.Lines.{content};
 ghost use Rattle.netlist.specs.Forms.{parts_of, declared, assigned, line_form};
 ghost use Rattle.netlist.specs.Kept.{LineAt, line_kept, line_name, line_is_gate, OfLetters};
 
+use arrayvec::ArrayVec;
+
 mod brackets;
 mod pieces;
 mod words;
@@ -44,15 +46,11 @@ pub struct Piece<'a> {
     pub rest: &'a [u8],
 }
 
-// Names in brackets: how many of the four places are used, and each of the names.
-#[derive(Clone, Copy)]
-pub struct Names {
-    pub used: usize,
-    pub names: [Name; 4],
-}
+// Names in brackets, four at most.
+pub type Names = ArrayVec<Name, 4>;
 
 // A gate as its line has it: its kind, as document 01 numbers kinds, its name and its pins' names, as many as its pin count.
-#[derive(Clone, Copy)]
+#[derive(Drop)]
 pub struct GateLine {
     pub kind: usize,
     pub name: Name,
@@ -60,7 +58,7 @@ pub struct GateLine {
 }
 
 // A line that is right by itself, by the record that it gives: none, an input's or a gate's.
-#[derive(Clone, Copy)]
+#[derive(Drop)]
 pub enum Line {
     Nothing,
     Input(Name),
@@ -69,19 +67,19 @@ pub enum Line {
 
 impl Line {
     // The name that a line gives to a record, if any.
-    pub fn name(self) -> Option<Name>
-        ensures { result ≡ line_name self }
+    pub fn name(&self) -> Option<Name>
+        ensures { result ≡ line_name self.now }
     {
         match self {
             Line::Nothing => None,
-            Line::Input(name) => Some(name),
+            Line::Input(name) => Some(*name),
             Line::Gate(gate) => Some(gate.name),
         }
     }
 
     // Whether a line is a gate.
-    pub fn is_gate(self) -> bool
-        ensures { result ≡ line_is_gate self }
+    pub fn is_gate(&self) -> bool
+        ensures { result ≡ line_is_gate self.now }
     {
         match self {
             Line::Nothing | Line::Input(_) => false,
@@ -127,11 +125,11 @@ fn declaration(word: Word, rest: &[u8]) -> Option<Line>
     ensures { OfLetters word (λ letters. result ≡ line_kept (declared letters (parts_of (content rest.now)))) }
 {
     let names = brackets::read_names(rest)?;
-    if names.used != 1 {
+    if names.len() != 1 {
         return None;
     }
     match word.short() {
-        0x494e505554 => Some(Line::Input(names.names[0])),
+        0x494e505554 => Some(Line::Input(names[0])),
         0x4f5554505554 => Some(Line::Nothing),
         _ => None,
     }
@@ -147,7 +145,7 @@ fn assignment(name: Word, rest: &[u8]) -> Option<Line>
     };
     let pins = brackets::read_names(piece.rest)?;
     let kind = piece.word.kind()?;
-    let right = name.is_name() & words::pin_count_right(kind, pins.used);
+    let right = name.is_name() & words::pin_count_right(kind, pins.len());
     right.then_some(Line::Gate(GateLine {
         kind,
         name: name.name,

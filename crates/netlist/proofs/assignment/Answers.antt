@@ -52,4 +52,4 @@ returns c letters e l =
     (assigned_right letters piece.ensures.letters _ _
     (piece_parts _ piece.result piece.ensures Open refl c.in-Open.is)
     (sym c.in_ok-pins.was ∙ c.read_names.ensures) (sym c.in_ok-kind.was ∙ of_piece _ piece.ensures c.kind.ensures)
-    (c.is_name.ensures letters e l) c.pin_count_right.ensures)
+    (c.is_name.ensures letters e l) (rw c.len.ensures.value at c.pin_count_right.ensures))
