@@ -1,13 +1,12 @@
 -- What the code holds of a text while it goes through the lines, and what its functions promise.
 use Rattle.std.specs.Prelude.{ℕ, ◌+◌, ◌*◌, ◌≤◌, ◌<◌, Bool, true, false, cond, ◌&&◌, ◌||◌, Option, Some, None, List, [], ◌∷◌, ◌++◌, map, ◌≡◌, leb, length, take, drop, Result, Ok, Err}
-use Rattle.arrayvec.specs.ArrayVec.{ArrayVec}
 use Rattle.block.specs.Refusals.{read_checks}
 use Rattle.block.specs.Verdict.{verdict, Verdict, Accepted}
 use Rattle.block.specs.declared.verdict.Refusal.{Refusal}
 use Rattle.operation.specs.Operation.{answer_after}
 use Rattle.netlist.specs.Names.{Letters, is_name, are_names, known, all_known}
 use Rattle.netlist.specs.Forms.{Form, input, gate, forms_of, form_right, given_by, names_of, is_gate}
-use Rattle.netlist.specs.Kept.{name_kept, names_kept, gate_kept, same_name, right_kept}
+use Rattle.netlist.specs.Kept.{name_kept, gate_kept, same_name, right_kept}
 use Rattle.netlist.specs.declared.GateLine.{GateLine}
 use Rattle.netlist.specs.declared.Line.{Line}
 use Rattle.netlist.specs.declared.Line.TheVariants as line
@@ -36,9 +35,9 @@ unfoldable pub four_nets : List Letters → List Letters → List ℕ
 four_nets names pins = pin_net names pins 0 ∷ pin_net names pins 1 ∷ pin_net names pins 2 ∷ pin_net names pins 3 ∷ []
 
 -- The pins of a gate, looked up: their nets, if all are known.
-abbrev pub PinsPlaced : List Name → ArrayVec Name → Option (List ℕ) → Type 0
+abbrev pub PinsPlaced : List Name → List Name → Option (List ℕ) → Type 0
 PinsPlaced kept pins nets =
-    (names : List Letters) (words : List Letters) → Held names kept → are_names words ≡ true → pins ≡ names_kept words
+    (names : List Letters) (words : List Letters) → Held names kept → are_names words ≡ true → pins ≡ map name_kept words
     → nets ≡ cond (all_known words names) (Some (four_nets names words)) None
 
 -- What an accepted line adds: its name, and its record.

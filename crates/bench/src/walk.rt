@@ -24,7 +24,7 @@ impl Table {
 
     // Takes the line of a gate that has passed check 17 by itself.
     fn take_gate(&mut self, gate: &GateLine, number: usize, list: &[u8; 64]) -> Result<(), Refusal>
-        requires { self.old.count < 1024 }
+        requires { (self.old.count < 1024) × (2 ≤ gate.now.kind) × (gate.now.kind ≤ 9) }
         ensures { GateTaken gate.now number list.now self.old self.new result }
     {
         let place = number as u64;

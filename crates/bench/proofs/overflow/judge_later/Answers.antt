@@ -1,11 +1,9 @@
 -- `bench::overflow::judge_later` meets its contract. The loop's invariant: the lines before byte `at` are judged, and all accepted.
 -- Assumes nothing.
-use mathlib.Core.Path.{refl, sym, ap, subst}
+use mathlib.Core.Path.{refl, ap}
 use Rattle.std.specs.Prelude.{Err}
 use Rattle.block.proofs.Verdicts.{handed_on}
-use Rattle.bench.specs.Held.{FewPins}
 use Rattle.bench.proofs.Told.{missing, there}
-use Rattle.bench.proofs.KeptLines.{line_right, pins_few_lem}
 use Rattle.bench.proofs.LaterLines.{none_judged, all_judged, form_refused, line_refused, judged_next}
 use Rattle.bench.proofs.overflow.judge_later.Goals as goal
 
@@ -16,11 +14,6 @@ pub returns-in_err-line : goal.returns-in_err-line
 returns-in_err-line c =
     let line = missing _ _ c.ok_or.ensures.value c.in_err-line.was in
     rw (handed_on c.from_residual.ensures.1 (ap Err line.1)) (form_refused c.loop-at.invariant c.line_at-span.ensures c.read_line.ensures line.0)
-
-pub judge-requires : goal.judge-requires
-judge-requires c =
-    let right = line_right _ c.read_line.ensures (there _ _ c.ok_or.ensures.value c.in_ok-line.was) in
-    subst FewPins (sym right.1) (pins_few_lem _ right.0)
 
 pub returns-in_err-judge : goal.returns-in_err-judge
 returns-in_err-judge c =
