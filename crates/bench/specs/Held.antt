@@ -1,5 +1,5 @@
 -- What the code holds of a text while it goes through the lines, and what its functions promise.
-use Rattle.std.specs.Prelude.{ℕ, ◌+◌, ◌*◌, ◌≤◌, ◌<◌, Bool, true, false, cond, ◌&&◌, ◌||◌, Option, Some, None, List, [], ◌∷◌, ◌++◌, map, ◌≡◌, leb, length, take, drop, Result, Ok, Err}
+use Rattle.std.specs.Prelude.{ℕ, ◌+◌, ◌*◌, ◌≤◌, ◌<◌, Bool, true, false, cond, ◌&&◌, ◌||◌, Option, Some, None, List, [], ◌∷◌, ◌++◌, map, ◌≡◌, leb, length, take, Result, Ok, Err}
 use Rattle.block.specs.Refusals.{read_checks}
 use Rattle.block.specs.Verdict.{verdict, Verdict, Accepted}
 use Rattle.block.specs.declared.verdict.Refusal.{Refusal}
@@ -67,20 +67,19 @@ GateTaken given number list before after v =
     (name word : Letters) (pins : List Letters) → form_right (gate name word pins) ≡ true → given ≡ gate_kept name word pins
     → LineRead (gate name word pins) number list before after v
 
--- Lines taken up to byte `at`, all of them accepted: their names are held, and their records made.
-pub record LinesTaken (text list : List ℕ) (table : Table) (at number : ℕ) : Type 0 where
+-- Lines taken, of which `rest` is left, all of them accepted: their names are held, and their records made.
+pub record LinesTaken (text list : List ℕ) (table : Table) (rest : List ℕ) (number : ℕ) : Type 0 where
   pub names : List Letters
   pub held : Held names (held_names table)
-  pub judged : verdict (lines_from 1 [] false (forms_of text)) ≡ verdict (lines_from number names table.gates (forms_of (drop at text)))
-  pub made : records_from list [] (forms_of text) ≡ made_records table ++ records_from list names (forms_of (drop at text))
-  pub inside : at ≤ length text
-  pub numbered : number ≤ at + 1
+  pub judged : verdict (lines_from 1 [] false (forms_of text)) ≡ verdict (lines_from number names table.gates (forms_of rest))
+  pub made : records_from list [] (forms_of text) ≡ made_records table ++ records_from list names (forms_of rest)
+  pub numbered : number + length rest ≤ length text + 1
 
 -- The lines from the first on, up to the 1,024th record: the refusal of one of them, or what was taken, of a text with fewer records all.
 pub record Begun (text list : List ℕ) (table : Table) (progress : Result Progress Refusal) : Type 0 where
   pub refused : (r : Refusal) → progress ≡ Err r → verdict (lines_from 1 [] false (forms_of text)) ≡ Err r
   pub accepted : (reached : Progress) → progress ≡ Ok reached
-      → LinesTaken text list table reached.at reached.number × (table.count < 1024 → reached.at ≡ length text)
+      → LinesTaken text list table reached.rest.now reached.number × (table.count < 1024 → reached.rest.now ≡ [])
 
 -- Whether every line is right by itself.
 unfoldable pub all_right : List Form → Bool
@@ -101,7 +100,7 @@ GivenIn forms name r = (word : Letters) → is_name word ≡ true → name ≡ n
 -- Lines after the 1,024th record are judged by the names held and those that `forms`, the lines from there on, give.
 
 abbrev pub forms_before : Earlier → List Form
-forms_before earlier = take earlier.lines (forms_of (drop earlier.from earlier.text.now))
+forms_before earlier = take earlier.lines (forms_of earlier.text.now)
 
 abbrev pub KnownIn : List Form → List Name → Name → Bool → Type 0
 KnownIn forms kept name r =

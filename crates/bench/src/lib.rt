@@ -1,7 +1,7 @@
 // Bench netlists: the records of a block from its text.
 #![tactic(auto)]
 
-ghost use Rattle.std.specs.Prelude.{◌≡◌, ◌++◌, ◌≤◌, length, Err, MatchResult};
+ghost use Rattle.std.specs.Prelude.{◌≡◌, ◌+◌, ◌++◌, ◌≤◌, length, Err, MatchResult};
 ghost use Rattle.block.specs.Verdict.{verdict, Accepted};
 ghost use Rattle.block.specs.Refusals.{read_checks};
 ghost use Rattle.bench.specs.Checks.{size_checks, rows_from, row_in_range};
@@ -27,21 +27,20 @@ pub struct Table {
     ghost sized: { length records ≡ 20480 },
 }
 
-// How far the lines were taken: the byte and the number of the next line.
+// How far the lines were taken: what is left of the text, and the number of its first line. No number of a line of it overflows.
 #[derive(Clone, Copy)]
-pub struct Progress {
-    pub at: usize,
+pub struct Progress<'a> {
+    pub rest: &'a [u8],
     pub number: usize,
+    ghost counted: { number + length rest.now ≤ 9223372036854775808 },
 }
 
-// What a line after the 1,024th record is judged by: the names held, and the first `lines` lines of the text from byte `from` on.
+// What a line after the 1,024th record is judged by: the names held, and the first `lines` lines of the text.
 #[derive(Clone, Copy)]
 pub struct Earlier<'a> {
     pub names: &'a [Name],
     pub text: &'a [u8],
-    pub from: usize,
     pub lines: usize,
-    ghost inside: { from ≤ length text.now },
 }
 
 // Whether a row of the list is one that a gate may have.

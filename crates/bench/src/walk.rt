@@ -59,20 +59,22 @@ impl Table {
 }
 
 // Takes lines from the first on, up to the 1,024th record.
-fn begin(text: &[u8], list: &[u8; 64], table: &mut Table) -> Result<Progress, Refusal>
+fn begin<'a>(text: &'a [u8], list: &[u8; 64], table: &mut Table) -> Result<Progress<'a>, Refusal>
     requires { (table.old.count ≡ 0) × (table.old.gates ≡ false) }
     ensures { Begun text.now list.now table.new result }
 {
-    let mut at: usize = 0;
+    let mut rest = text;
     let mut number: usize = 1;
-    // Form kept: no range fits, since only where a line ends tells where the next one starts, and the caller goes on from where this stops.
-    while at < text.len() && table.count < 1024 {
-        let span = netlist::line_at(text, at);
-        table.take_line(&text[at..span.end], number, list)?;
-        at = span.next;
+    // Form kept: no `for` fits, since lines are split off one after the other, and the caller goes on from where this stops.
+    while table.count < 1024 {
+        let Some((line, after)) = netlist::split_line(rest) else {
+            break;
+        };
+        table.take_line(line, number, list)?;
+        rest = after;
         number += 1;
     }
-    Ok(Progress { at, number })
+    Ok(Progress { rest, number })
 }
 
 // Takes all lines of a text. Those after the 1,024th record are judged too; one of them that gives a record makes the text too long.
@@ -81,15 +83,9 @@ pub fn take_text(text: &[u8], list: &[u8; 64], table: &mut Table) -> Result<(), 
     ensures { TextTaken text.now list.now table.new result }
 {
     let progress = begin(text, list, table)?;
-    if progress.at == text.len() {
+    if progress.rest.is_empty() {
         return Ok(());
     }
-    let more = overflow::judge_later(
-        text,
-        progress.at,
-        progress.number,
-        table.gates,
-        table.held(),
-    )?;
+    let more = overflow::judge_later(progress, table.gates, table.held())?;
     check(Reason::TooManyRecords, 0, !more)
 }

@@ -1,12 +1,11 @@
 -- How the code keeps words, names and lines, and what its functions promise of them.
-use Rattle.std.specs.Prelude.{ℕ, ◌+◌, ◌-◌, ◌*◌, ◌≤◌, ◌<◌, min, Bool, true, false, cond, ◌&&◌, Option, Some, None, List, [], ◌∷◌, map, reverse, ◌≡◌, leb, eqb, length, take, drop}
+use Rattle.std.specs.Prelude.{ℕ, ◌+◌, ◌*◌, ◌<◌, min, Bool, true, false, cond, ◌&&◌, Option, Some, None, List, [], ◌∷◌, map, reverse, ◌≡◌, leb, eqb, length, take, drop}
 use Rattle.arrayvec.specs.ArrayVec.{ArrayVec}
 use Rattle.netlist.specs.declared.GateLine.{GateLine}
 use Rattle.netlist.specs.declared.Line.{Line}
 use Rattle.netlist.specs.declared.Line.TheVariants.{Nothing, Input, Gate}
 use Rattle.netlist.specs.declared.Name.{Name}
 use Rattle.netlist.specs.declared.Piece.{Piece}
-use Rattle.netlist.specs.declared.Span.{Span}
 use Rattle.netlist.specs.declared.Word.{Word}
 use Rattle.netlist.specs.Lines.{lines_of, content}
 use Rattle.netlist.specs.Names.{Letters, are_names, lettered}
@@ -86,13 +85,10 @@ line_is_gate Nothing = false
 line_is_gate (Input name) = false
 line_is_gate (Gate given) = true
 
--- A line that starts at a byte of a text: up to its end, with the next line after it.
-pub record LineAt (text : List ℕ) (at : ℕ) (span : Span) : Type 0 where
-  pub is : lines_of (drop at text) ≡ take (span.end - at) (drop at text) ∷ lines_of (drop span.next text)
-  pub from : at ≤ span.end
-  pub to : span.end ≤ length text
-  pub on : at < span.next
-  pub inside : span.next ≤ length text
+-- The first line of a text, with what is left of the text after it.
+pub record FirstLine (text line rest : List ℕ) : Type 0 where
+  pub is : lines_of text ≡ line ∷ lines_of rest
+  pub shorter : length rest < length text
 
 -- The piece that a line starts with, read: the first part of its content, and what is left of the line after it.
 pub record PieceRead (line : List ℕ) (piece : Piece) : Type 0 where

@@ -1,11 +1,11 @@
 // Bench text: the line, its words and names, and the form that it has.
 #![tactic(auto)]
 
-ghost use Rattle.std.specs.Prelude.{◌≡◌, ◌≤◌, ◌<◌, ◌==◌, length, drop};
+ghost use Rattle.std.specs.Prelude.{[], MatchOption, ◌≡◌, ◌≤◌, ◌<◌, ◌==◌, length, drop};
 ghost use Rattle.std.specs.List.{position};
 ghost use Rattle.netlist.specs.Lines.{content};
 ghost use Rattle.netlist.specs.Forms.{parts_of, declared, assigned, line_form};
-ghost use Rattle.netlist.specs.Kept.{LineAt, line_kept, line_name, line_is_gate, OfLetters};
+ghost use Rattle.netlist.specs.Kept.{FirstLine, line_kept, line_name, line_is_gate, OfLetters};
 
 use arrayvec::ArrayVec;
 
@@ -88,13 +88,6 @@ impl Line {
     }
 }
 
-// Where a line of a text ends, and where the next one starts.
-#[derive(Clone, Copy)]
-pub struct Span {
-    pub end: usize,
-    pub next: usize,
-}
-
 // Where the first line of a text ends, if a byte 10 ends it.
 fn first_end(text: &[u8]) -> Option<usize>
     ensures { result ≡ position (λ byte. byte == 10) text.now }
@@ -102,21 +95,14 @@ fn first_end(text: &[u8]) -> Option<usize>
     text.iter().position(|byte| *byte == 10)
 }
 
-// The line that starts at a byte of a text.
-pub fn line_at(text: &[u8], at: usize) -> Span
-    requires { at < length text.now }
-    ensures { LineAt text.now at result }
+// The first line of a text, and what is left of the text after it; an empty text has none.
+pub fn split_line(text: &[u8]) -> Option<(&[u8], &[u8])>
+    ensures { MatchOption result (text.now ≡ []) (λ split. FirstLine text.now split.0.now split.1.now) }
 {
-    let length = text.len();
-    match first_end(&text[at..]) {
-        Some(before) => {
-            let end = at + before;
-            Span { end, next: end + 1 }
-        }
-        None => Span {
-            end: length,
-            next: length,
-        },
+    match first_end(text) {
+        Some(end) => Some((&text[..end], &text[end + 1..])),
+        None if text.is_empty() => None,
+        None => Some((text, &[])),
     }
 }
 
