@@ -1,21 +1,20 @@
 -- Laws of the names that lines give: whether a name is one of them, or one of those held, as code tests it.
 -- Assumes nothing.
-use Prim.Native.Nat.{ℕ, suc, ◌+◌, ◌-◌, ◌≤◌, ◌<◌}
+use Prim.Native.Nat.{ℕ, suc, ◌+◌, ◌-◌, ◌<◌}
 use mathlib.Core.Bool.{Bool, true, false, false≢true, ◌||◌, or-false}
 use mathlib.Core.List.{List, [], ◌∷◌, ◌++◌}
 use mathlib.Core.Path.{◌≡◌, refl, sym, ap, ◌∙◌}
 use native.Mathlib.Omega.{arith}
-use lib.ListN.{length, take, drop}
+use lib.ListN.{take}
 use lib.Seq.{take-nil}
 use Rattle.std.proofs.Common.{Option}
 use Rattle.std.specs.Prelude.{is_some}
 use Rattle.laws.proofs.Tests.{and_left, and_right}
 use Rattle.netlist.specs.Names.{Letters, is_name, same, known}
 use Rattle.netlist.specs.Forms.{Form, empty, input, output, gate, none, line_form, forms_of, form_right, given_by, names_of}
-use Rattle.netlist.specs.Kept.{LineAt, name_kept, same_name, line_kept}
+use Rattle.netlist.specs.Kept.{FirstLine, name_kept, same_name, line_kept}
 use Rattle.netlist.specs.declared.Line.{Line}
 use Rattle.netlist.specs.declared.Name.{Name}
-use Rattle.netlist.specs.declared.Span.{Span}
 use Rattle.netlist.proofs.Packing.{kept_same}
 use Rattle.netlist.proofs.KnownWords.{same_turned, known_append}
 use Rattle.netlist.proofs.RightGates.{gate_named}
@@ -49,35 +48,35 @@ pub given_nowhere : (name : Name) → GivenIn [] name false
 unfolding names_of known
 given_nowhere name word proper is right = refl
 
--- The lines that are left of some first ones: none, or the one at byte `at` and those after it.
+-- The lines that are left of some first ones: none, or the next one and those after it.
 
-pub none_left : (text : List ℕ) (at n : ℕ) → length text ≤ at → take n (forms_of (drop at text)) ≡ []
-none_left text at n h = rw (no_forms text at h) (take-nil n)
+pub none_left : {text : List ℕ} (n : ℕ) → text ≡ [] → take n (forms_of text) ≡ []
+none_left n e = rw (no_forms e) (take-nil n)
 
-module _ {text : List ℕ} {at : ℕ} {span : Span} (line : LineAt text at span) (lines passed : ℕ) (h : passed < lines) (name : Name)
+module _ {text line rest : List ℕ} (first : FirstLine text line rest) (lines passed : ℕ) (h : passed < lines) (name : Name)
     {read : Option Line} {b : Bool}
-    (is : read ≡ line_kept (line_form (take (span.end - at) (drop at text)))) (tested : b ≡ gives read name) where
+    (is : read ≡ line_kept (line_form line)) (tested : b ≡ gives read name) where
   abbrev left : List Form
-  left = take (lines - (passed + 1)) (forms_of (drop span.next text))
+  left = take (lines - (passed + 1)) (forms_of rest)
 
-  first_left : take (lines - passed) (forms_of (drop at text)) ≡ line_form (take (span.end - at) (drop at text)) ∷ left
+  first_left : take (lines - passed) (forms_of text) ≡ line_form line ∷ left
   first_left =
       let e : lines - passed ≡ suc (lines - (passed + 1)) = omega arith in
-      rw (e, forms_at line) refl
+      rw (e, forms_at first) refl
 
   by_first : (word : Letters) → is_name word ≡ true → name ≡ name_kept word
-      → all_right (take (lines - passed) (forms_of (drop at text))) ≡ true
-      → (all_right left ≡ true) × ((b || known word (names_of left)) ≡ known word (names_of (take (lines - passed) (forms_of (drop at text)))))
+      → all_right (take (lines - passed) (forms_of text)) ≡ true
+      → (all_right left ≡ true) × ((b || known word (names_of left)) ≡ known word (names_of (take (lines - passed) (forms_of text))))
   unfolding all_right
   by_first word proper named right =
-      let form = line_form (take (span.end - at) (drop at text)) in
+      let form = line_form line in
       let all : all_right (form ∷ left) ≡ true = rw first_left at right in
       (and_right (form_right form) (all_right left) all, rw (first_left, tested, is, named) (given_first form left word proper all))
 
-  pub given_here : b ≡ true → GivenIn (take (lines - passed) (forms_of (drop at text))) name true
+  pub given_here : b ≡ true → GivenIn (take (lines - passed) (forms_of text)) name true
   given_here e word proper named right = rw e at (by_first word proper named right).1
 
-  pub given_later : b ≡ false → (r : Bool) → GivenIn left name r → GivenIn (take (lines - passed) (forms_of (drop at text))) name r
+  pub given_later : b ≡ false → (r : Bool) → GivenIn left name r → GivenIn (take (lines - passed) (forms_of text)) name r
   given_later e r later word proper named right =
       let first = by_first word proper named right in
       later word proper named first.0 ∙ rw e at first.1

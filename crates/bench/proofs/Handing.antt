@@ -65,12 +65,12 @@ module _ (given : BenchArguments) {table : Table} {v : Verdict} (all : TextTaken
       (subst (λ m. Handed (verdict (read_checks m)) m given.records answered records') (is ∙ sym a.1) h)
 
 -- The checks on what is lent come first.
-module _ (given : BenchArguments) {lent : Verdict} (judged : lent ≡ verdict (lent_checks given)) where
-  pub lent_refused : (q : Refusal) → lent ≡ Err q → Benched given (Err q) given.records
+module _ (given : BenchArguments) where
+  pub lent_refused : {q : Refusal} → verdict (lent_checks given) ≡ Err q → Benched given (Err q) given.records
   unfolding bench_verdict bench_checks
-  lent_refused q e = handed_refusal _ _ q (refused_first (lent_checks given) (text_checks given) q (sym judged ∙ e))
+  lent_refused {q} e = handed_refusal _ _ q (refused_first (lent_checks given) (text_checks given) q e)
 
-  pub lent_accepted : {answered : Result ℕ Refusal} {records' : List ℕ} → lent ≡ Accepted
+  pub lent_accepted : {answered : Result ℕ Refusal} {records' : List ℕ} → verdict (lent_checks given) ≡ Accepted
       → Handed (verdict (text_checks given)) (bench_records given) given.records answered records' → Benched given answered records'
   unfolding bench_verdict bench_checks
-  lent_accepted e h = handed_by _ _ (sym (accepted_first (lent_checks given) (text_checks given) (sym judged ∙ e))) h
+  lent_accepted e h = handed_by _ _ (sym (accepted_first (lent_checks given) (text_checks given) e)) h

@@ -3,7 +3,6 @@
 use mathlib.Core.Bool.{true, false, false≢true}
 use mathlib.Core.List.{List}
 use mathlib.Core.Path.{◌≡◌, refl, sym, ◌∙◌}
-use native.Mathlib.Omega.{arith}
 use lib.Dec.{leb}
 use lib.ListN.{length}
 use borrow.Table.Steps.{cases}
@@ -16,8 +15,6 @@ use Rattle.netlist.specs.declared.GateLine.{GateLine}
 use Rattle.netlist.specs.declared.Line.{Line}
 use Rattle.netlist.specs.declared.Line.TheVariants.{Input, Gate}
 use Rattle.netlist.specs.declared.Name.{Name}
-use Rattle.netlist.proofs.RightGates.{gate_few}
-use Rattle.bench.specs.Held.{FewPins}
 
 -- A line is kept where its form is right, and as that form is.
 
@@ -34,7 +31,7 @@ line_right form {line = line} kept some =
     let is : Some line ≡ line_kept form = sym some ∙ kept in
     cases (form_right form) (λ t. let told = rw t at is in (t, cc)) (λ t. let told = rw t at is in cc)
 
--- Whether a right line gives a record, whether it is a gate, and that it has no more than four pins.
+-- Whether a right line gives a record, and whether it is a gate.
 
 pub gives_lem : (form : Form) → form_right form ≡ true → is_some (line_name (right_kept form)) ≡ leb 1 (length (given_by form))
 unfolding form_right given_by
@@ -50,14 +47,6 @@ gate_lem (input name) = refl
 gate_lem (output name) = refl
 gate_lem (gate name word pins) = refl
 gate_lem none = refl
-
-pub pins_few_lem : (form : Form) → form_right form ≡ true → FewPins (right_kept form)
-unfolding form_right
-pins_few_lem empty right = omega arith
-pins_few_lem (input name) right = omega arith
-pins_few_lem (output name) right = omega arith
-pins_few_lem (gate name word pins) right = gate_few name word pins right
-pins_few_lem none right = omega arith
 
 -- The forms of the lines that give a record.
 pub data Giving : Form → Type 0 where

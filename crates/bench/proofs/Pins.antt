@@ -7,17 +7,17 @@ use mathlib.Core.Path.{◌≡◌, refl, sym, ap, ◌∙◌}
 use native.Mathlib.Numerals.{add-one}
 use native.Mathlib.Omega.{arith}
 use lib.Dec.{ltb}
-use lib.ListN.{length, get_or, set, drop, replicate, length-set, length-map, get_or-map, drop_of_length-le}
+use lib.ListN.{length, get_or, set, drop, replicate, length-set, get_or-map, drop_of_length-le}
 use lib.Seq.{get_or-set_same, get_or-set_other, ext_get_or, drop-cons}
 use borrow.Author.Tests.{ltb-true, ltb-false, lt-ltb, le-ltb}
+use Rattle.std.proofs.lemmas.List.{length-map}
 use borrow.Table.Steps.{cases}
 use Rattle.std.proofs.Common.{Option, Some, None}
 use Rattle.laws.proofs.Numbers.{of_each}
 use Rattle.laws.proofs.Lists.{get_d_any, replicate_at}
 use Rattle.netlist.specs.Names.{Letters, are_names, known, all_known, position}
-use Rattle.netlist.specs.Kept.{name_kept, names_kept, no_name, kept_at, four_kept}
+use Rattle.netlist.specs.Kept.{name_kept}
 use Rattle.netlist.specs.declared.Name.{Name}
-use Rattle.netlist.specs.declared.Names.{Names}
 use Rattle.netlist.proofs.KnownWords.{name_at}
 use Rattle.bench.specs.Records.{pin_net}
 use Rattle.bench.proofs.Lookups.{Placed}
@@ -32,10 +32,8 @@ four_at_lem f d (suc (suc (suc zero))) h = refl
 four_at_lem f d (suc (suc (suc (suc p)))) h = absurd (omega arith)
 
 -- The name of a pin that is used, as it is kept.
-pub kept_at_lem : (pins : List Letters) (d : Name) (p : ℕ) → p < length pins → p < 4 → get_or (four_kept pins) p d ≡ name_kept (get_or pins p [])
-unfolding four_kept
-kept_at_lem pins d p h l =
-    four_at_lem (kept_at pins) d p l ∙ get_d_any (map name_kept pins) p no_name (name_kept []) (rw length-map h) ∙ get_or-map name_kept pins p []
+pub kept_at_lem : (pins : List Letters) (d : Name) (p : ℕ) → p < length pins → get_or (map name_kept pins) p d ≡ name_kept (get_or pins p [])
+kept_at_lem pins d p h = get_d_any (map name_kept pins) p d (name_kept []) (omega (arith, length-map pins name_kept)) ∙ get_or-map name_kept pins p []
 
 -- All words from the p-th on are known where that one is and those after it are.
 pub known_at : (words given : List Letters) (p : ℕ) → p < length words
@@ -64,13 +62,13 @@ pub told_none : {A : Type 0} (m : A) (b : Bool) → None ≡ cond b (Some m) Non
 told_none m true e = cc
 told_none m false e = refl
 
-module _ (kept : List Name) (pins : Names) where
+module _ (kept : List Name) (pins : List Name) where
   -- The first p pins were looked up, and are known, so that the others decide. Their nets are still 0.
   pub record PinsPassed (nets : List ℕ) (p : ℕ) : Type 0 where
     pub long : length nets ≡ 4
-    pub known_so_far : (names words : List Letters) → Held names kept → are_names words ≡ true → pins ≡ names_kept words
+    pub known_so_far : (names words : List Letters) → Held names kept → are_names words ≡ true → pins ≡ map name_kept words
         → all_known words names ≡ all_known (drop p words) names
-    pub is : (names words : List Letters) → Held names kept → are_names words ≡ true → pins ≡ names_kept words
+    pub is : (names words : List Letters) → Held names kept → are_names words ≡ true → pins ≡ map name_kept words
         → (q : ℕ) → get_or nets q 0 ≡ cond (ltb q p) (position (get_or words q []) names) 0
 
   pub pins_none : PinsPassed (replicate 4 0) 0
@@ -80,15 +78,15 @@ module _ (kept : List Name) (pins : Names) where
     is = λ names words held proper same q. replicate_at 4 q 0 ∙ rw (le-ltb q 0 (omega arith)) refl;
   }
 
-  module _ (few : pins.used ≤ 4) (nets : List ℕ) (p : ℕ) (h : p < pins.used) (d : Name) {r : Option ℕ}
-      (place : Placed kept (get_or pins.names p d) r) (w : PinsPassed nets p) where
+  module _ (few : length pins ≤ 4) (nets : List ℕ) (p : ℕ) (h : p < length pins) (d : Name) {r : Option ℕ}
+      (place : Placed kept (get_or pins p d) r) (w : PinsPassed nets p) where
     -- What the lookup of pin p says.
-    pin_at : (names words : List Letters) → Held names kept → are_names words ≡ true → pins ≡ names_kept words
+    pin_at : (names words : List Letters) → Held names kept → are_names words ≡ true → pins ≡ map name_kept words
         → (r ≡ cond (known (get_or words p []) names) (Some (position (get_or words p []) names)) None)
         × (all_known words names ≡ (known (get_or words p []) names && all_known (drop (p + 1) words) names))
     pin_at names words held proper same =
-        let used_pin : p < length words = omega (arith, ap (λ pins. pins.used) same) in
-        let name = ap (λ pins. get_or pins.names p d) same ∙ kept_at_lem words d p used_pin (omega arith) in (
+        let used_pin : p < length words = omega (arith, ap length same, length-map words name_kept) in
+        let name = ap (λ pins. get_or pins p d) same ∙ kept_at_lem words d p used_pin in (
           place.is names (get_or words p []) held (name_at words proper p used_pin) name,
           w.known_so_far names words held proper same ∙ known_at words names p used_pin,
         )
@@ -117,14 +115,14 @@ module _ (kept : List Name) (pins : Names) where
           ∙ ap (λ b. cond b (position (get_or words q []) names) 0) (below_next q p other));
     }
 
-  pub pins_placed : (nets : List ℕ) → PinsPassed nets pins.used → PinsPlaced kept pins (Some nets)
+  pub pins_placed : (nets : List ℕ) → PinsPassed nets (length pins) → PinsPlaced kept pins (Some nets)
   unfolding four_nets pin_net
   pins_placed nets w names words held proper same =
-      let whole : pins.used ≡ length words = ap (λ pins. pins.used) same in
+      let whole : length pins ≡ length words = ap length same ∙ length-map words name_kept in
       let each = w.is names words held proper same in
       let are : nets ≡ four_nets names words =
       ext_get_or 0 nets (four_nets names words) w.long
       (λ q h. each q ∙ ap (λ n. cond (ltb q n) (position (get_or words q []) names) 0) whole
       ∙ sym (four_at_lem (pin_net names words) 0 q (rw w.long at h))) in
-      let all = w.known_so_far names words held proper same ∙ known_end words names pins.used (omega arith) in
+      let all = w.known_so_far names words held proper same ∙ known_end words names (length pins) (omega arith) in
       rw (all, are) refl

@@ -2,14 +2,16 @@
 -- Assumes nothing.
 use Prim.Native.Nat.{ℕ, suc, ◌+◌, ◌-◌, ◌≤◌, ◌<◌}
 use mathlib.Core.Bool.{Bool}
-use mathlib.Core.List.{List, [], ◌∷◌}
+use mathlib.Core.List.{List, [], ◌∷◌, ◌++◌}
 use mathlib.Core.Path.{◌≡◌, refl, sym}
 use native.Mathlib.Numerals.{add-one}
 use native.Mathlib.Omega.{arith}
-use borrow.Author.Tests.{leb-true, eqb-true}
-use Rattle.std.specs.Prelude.{Err}
+use lib.Dec.{leb}
+use lib.ListN.{length}
+use borrow.Author.Tests.{leb-true, eqb-true, eq-eqb, ne_eqb}
+use Rattle.std.specs.Prelude.{◌≢◌, Err}
 use Rattle.block.specs.declared.verdict.Refusal.{Refusal}
-use Rattle.block.specs.Verdict.{check, verdict, Verdict, Accepted}
+use Rattle.block.specs.Verdict.{check, verdict, refusal, Verdict, Accepted}
 use Rattle.block.specs.declared.verdict.Reason.TheVariants.{OutOfRange, WrongBuffer}
 use Rattle.block.proofs.Verdicts.{all_passed, passed, refused_here, judged_later}
 use Rattle.bench.specs.Checks.{size_checks, row_in_range, rows_from}
@@ -37,3 +39,19 @@ unfolding size_checks
 sizes_right list records e =
     let first = passed WrongBuffer _ _ _ e in
     (leb-true _ _ first.0, eqb-true _ _ (passed WrongBuffer _ _ _ first.1).0)
+
+-- The checks on what is lent beside the text, one after the other.
+module _ (list : List ℕ) (records : ℕ) {v : Verdict} (first : v ≡ verdict (check WrongBuffer 1 (leb 20480 records) ∷ [])) where
+  pub small_refused : {r : Refusal} → v ≡ Err r → verdict (size_checks (length list) records ++ rows_from list 0 8) ≡ Err r
+  unfolding size_checks
+  small_refused e = sym (refused_here WrongBuffer 1 first refl _ e)
+
+  module _ (large : v ≡ Accepted) where
+    pub long_refused : length list ≢ 64 → verdict (size_checks (length list) records ++ rows_from list 0 8) ≡ Err (refusal WrongBuffer 2)
+    unfolding size_checks verdict
+    long_refused other = sym (judged_later WrongBuffer 1 first refl _ large (rw (ne_eqb (length list) 64 other) refl))
+
+    pub rows_judged : length list ≡ 64 → {w : Verdict} → w ≡ verdict (rows_from list 0 8)
+        → verdict (size_checks (length list) records ++ rows_from list 0 8) ≡ w
+    unfolding size_checks verdict
+    rows_judged long same = sym (judged_later WrongBuffer 1 first refl _ large (rw (eq-eqb (length list) 64 long) same))

@@ -8,7 +8,7 @@ use mathlib.Core.Path.{◌≡◌, refl, sym, ap, ◌∙◌}
 use native.Mathlib.Nat.{eq-or-lt_of_le}
 use native.Mathlib.Omega.{arith}
 use lib.Dec.{leb}
-use lib.ListN.{length, drop, length-append}
+use lib.ListN.{length, length-append}
 use lib.Seq.{length-take-le}
 use borrow.Author.Tests.{eq-eqb, lt-leb, leb-true, leb-false}
 use Rattle.std.specs.Prelude.{Result, Ok, Err}
@@ -33,7 +33,7 @@ unfolding read_checks file_checks verdict
 too_many file n e h =
     rw (eq-eqb (length file % 20) 0 (omega arith), lt-leb (length file / 20) 1024 (omega arith)) refl
 
-no_bytes : (l : List ℕ) → length l ≡ 0 → l ≡ []
+pub no_bytes : (l : List ℕ) → length l ≡ 0 → l ≡ []
 no_bytes [] e = refl
 no_bytes (x ∷ l) e = absurd (omega arith)
 
@@ -52,34 +52,34 @@ module _ (text list : List ℕ) (table : Table) where
   accepted_with e is = record { refused = λ q told. apart _ (sym told); accepted = λ told. (e, is) }
 
 -- Lines are left only where there are 1,024 records.
-pub all_full : {count at end : ℕ} → count ≤ 1024 → (count < 1024 → at ≡ end) → (at ≡ end → ⊥) → count ≡ 1024
-all_full few ended left = ⊎_elim (λ e. e) (λ fewer. absurd (left (ended fewer))) (eq-or-lt_of_le few)
+pub all_full : {count : ℕ} {left : List ℕ} → count ≤ 1024 → (count < 1024 → left ≡ []) → (length left ≡ 0 → ⊥) → count ≡ 1024
+all_full few ended left = ⊎_elim (λ e. e) (λ fewer. absurd (left (ap length (ended fewer)))) (eq-or-lt_of_le few)
 
-module _ {text list : List ℕ} {table : Table} {at number : ℕ} (so_far : LinesTaken text list table at number) where
+module _ {text list rest : List ℕ} {table : Table} {number : ℕ} (so_far : LinesTaken text list table rest number) where
   -- All lines are taken.
-  pub text_ended : at ≡ length text → TextTaken text list table Accepted
+  pub text_ended : rest ≡ [] → TextTaken text list table Accepted
   unfolding lines_from records_from
   text_ended e =
-      let nothing : forms_of (drop at text) ≡ [] = no_forms text at (omega arith) in
+      let nothing = no_forms e in
       accepted_with text list table
       (so_far.judged ∙ ap (λ forms. verdict (lines_from number so_far.names table.gates forms)) nothing ∙ sym all_passed)
       (so_far.made ∙ ap (λ forms. made_records table ++ records_from list so_far.names forms) nothing ∙ append-nil (made_records table))
 
   -- Lines are left after the 1,024th record, and are judged.
   module _ {later : Result Bool Refusal} (full : table.count ≡ 1024) (sized : length table.records ≡ 20480)
-      (rest : JudgedLater (forms_of (drop at text)) (held_names table) number table.gates later) where
+      (judged : JudgedLater (forms_of rest) (held_names table) number table.gates later) where
     abbrev left : List Form
-    left = forms_of (drop at text)
+    left = forms_of rest
 
     pub later_refused : {q : Refusal} → later ≡ Err q → TextTaken text list table (Err q)
     later_refused {q} e =
-        refused_by_lines text list table q (so_far.judged ∙ refused_told _ _ (sym e ∙ rest so_far.names so_far.held))
+        refused_by_lines text list table q (so_far.judged ∙ refused_told _ _ (sym e ∙ judged so_far.names so_far.held))
 
     -- All of them are accepted: where one of them gives a record, there are too many.
     later_accepted : {more : Bool} → later ≡ Ok more
         → (verdict (lines_from 1 [] false (forms_of text)) ≡ Accepted) × (more ≡ leb 1 (length (names_of left)))
     later_accepted e =
-        let told = accepted_told _ (sym e ∙ rest so_far.names so_far.held) in
+        let told = accepted_told _ (sym e ∙ judged so_far.names so_far.held) in
         (so_far.judged ∙ told.0, told.1)
 
     pub later_gives : (more : Bool) → later ≡ Ok more → TextTaken text list table (verdict (check TooManyRecords 0 (not more) ∷ []))

@@ -1,17 +1,16 @@
 -- What the code holds of a text while it goes through the lines, and what its functions promise.
-use Rattle.std.specs.Prelude.{ℕ, ◌+◌, ◌*◌, ◌≤◌, ◌<◌, Bool, true, false, cond, ◌&&◌, ◌||◌, Option, Some, None, List, [], ◌∷◌, ◌++◌, map, ◌≡◌, leb, length, take, drop, Result, Ok, Err}
+use Rattle.std.specs.Prelude.{ℕ, ◌+◌, ◌*◌, ◌≤◌, ◌<◌, Bool, true, false, cond, ◌&&◌, ◌||◌, Option, Some, None, List, [], ◌∷◌, ◌++◌, map, ◌≡◌, leb, length, take, Result, Ok, Err}
 use Rattle.block.specs.Refusals.{read_checks}
 use Rattle.block.specs.Verdict.{verdict, Verdict, Accepted}
 use Rattle.block.specs.declared.verdict.Refusal.{Refusal}
 use Rattle.operation.specs.Operation.{answer_after}
 use Rattle.netlist.specs.Names.{Letters, is_name, are_names, known, all_known}
 use Rattle.netlist.specs.Forms.{Form, input, gate, forms_of, form_right, given_by, names_of, is_gate}
-use Rattle.netlist.specs.Kept.{name_kept, names_kept, gate_kept, same_name, right_kept}
+use Rattle.netlist.specs.Kept.{name_kept, gate_kept, same_name, right_kept}
 use Rattle.netlist.specs.declared.GateLine.{GateLine}
 use Rattle.netlist.specs.declared.Line.{Line}
 use Rattle.netlist.specs.declared.Line.TheVariants as line
 use Rattle.netlist.specs.declared.Name.{Name}
-use Rattle.netlist.specs.declared.Names.{Names}
 use Rattle.bench.specs.declared.Earlier.{Earlier}
 use Rattle.bench.specs.declared.Progress.{Progress}
 use Rattle.bench.specs.declared.Table.{Table}
@@ -36,9 +35,9 @@ unfoldable pub four_nets : List Letters → List Letters → List ℕ
 four_nets names pins = pin_net names pins 0 ∷ pin_net names pins 1 ∷ pin_net names pins 2 ∷ pin_net names pins 3 ∷ []
 
 -- The pins of a gate, looked up: their nets, if all are known.
-abbrev pub PinsPlaced : List Name → Names → Option (List ℕ) → Type 0
+abbrev pub PinsPlaced : List Name → List Name → Option (List ℕ) → Type 0
 PinsPlaced kept pins nets =
-    (names : List Letters) (words : List Letters) → Held names kept → are_names words ≡ true → pins ≡ names_kept words
+    (names : List Letters) (words : List Letters) → Held names kept → are_names words ≡ true → pins ≡ map name_kept words
     → nets ≡ cond (all_known words names) (Some (four_nets names words)) None
 
 -- What an accepted line adds: its name, and its record.
@@ -68,20 +67,19 @@ GateTaken given number list before after v =
     (name word : Letters) (pins : List Letters) → form_right (gate name word pins) ≡ true → given ≡ gate_kept name word pins
     → LineRead (gate name word pins) number list before after v
 
--- Lines taken up to byte `at`, all of them accepted: their names are held, and their records made.
-pub record LinesTaken (text list : List ℕ) (table : Table) (at number : ℕ) : Type 0 where
+-- Lines taken, of which `rest` is left, all of them accepted: their names are held, and their records made.
+pub record LinesTaken (text list : List ℕ) (table : Table) (rest : List ℕ) (number : ℕ) : Type 0 where
   pub names : List Letters
   pub held : Held names (held_names table)
-  pub judged : verdict (lines_from 1 [] false (forms_of text)) ≡ verdict (lines_from number names table.gates (forms_of (drop at text)))
-  pub made : records_from list [] (forms_of text) ≡ made_records table ++ records_from list names (forms_of (drop at text))
-  pub inside : at ≤ length text
-  pub numbered : number ≤ at + 1
+  pub judged : verdict (lines_from 1 [] false (forms_of text)) ≡ verdict (lines_from number names table.gates (forms_of rest))
+  pub made : records_from list [] (forms_of text) ≡ made_records table ++ records_from list names (forms_of rest)
+  pub numbered : number + length rest ≤ length text + 1
 
 -- The lines from the first on, up to the 1,024th record: the refusal of one of them, or what was taken, of a text with fewer records all.
 pub record Begun (text list : List ℕ) (table : Table) (progress : Result Progress Refusal) : Type 0 where
   pub refused : (r : Refusal) → progress ≡ Err r → verdict (lines_from 1 [] false (forms_of text)) ≡ Err r
   pub accepted : (reached : Progress) → progress ≡ Ok reached
-      → LinesTaken text list table reached.at reached.number × (table.count < 1024 → reached.at ≡ length text)
+      → LinesTaken text list table reached.rest.now reached.number × (table.count < 1024 → reached.rest.now ≡ [])
 
 -- Whether every line is right by itself.
 unfoldable pub all_right : List Form → Bool
@@ -95,12 +93,6 @@ gives (Some line.Nothing) name = false
 gives (Some (line.Input given)) name = same_name given name
 gives (Some (line.Gate given)) name = same_name given.name name
 
--- A line as it is kept has four pins at most.
-abbrev pub FewPins : Line → Type 0
-FewPins line.Nothing = 0 ≤ 4
-FewPins (line.Input name) = 0 ≤ 4
-FewPins (line.Gate given) = given.pins.used ≤ 4
-
 -- Whether one of some lines that are right gives a name.
 abbrev pub GivenIn : List Form → Name → Bool → Type 0
 GivenIn forms name r = (word : Letters) → is_name word ≡ true → name ≡ name_kept word → all_right forms ≡ true → r ≡ known word (names_of forms)
@@ -108,17 +100,17 @@ GivenIn forms name r = (word : Letters) → is_name word ≡ true → name ≡ n
 -- Lines after the 1,024th record are judged by the names held and those that `forms`, the lines from there on, give.
 
 abbrev pub forms_before : Earlier → List Form
-forms_before earlier = take earlier.lines (forms_of (drop earlier.from earlier.text.now))
+forms_before earlier = take earlier.lines (forms_of earlier.text.now)
 
 abbrev pub KnownIn : List Form → List Name → Name → Bool → Type 0
 KnownIn forms kept name r =
     (names : List Letters) (word : Letters) → Held names kept → all_right forms ≡ true → is_name word ≡ true
     → name ≡ name_kept word → r ≡ known word (names ++ names_of forms)
 
-abbrev pub AllKnownIn : List Form → List Name → Names → Bool → Type 0
+abbrev pub AllKnownIn : List Form → List Name → List Name → Bool → Type 0
 AllKnownIn forms kept pins r =
     (names : List Letters) (words : List Letters) → Held names kept → all_right forms ≡ true → are_names words ≡ true
-    → pins ≡ names_kept words → r ≡ all_known words (names ++ names_of forms)
+    → pins ≡ map name_kept words → r ≡ all_known words (names ++ names_of forms)
 
 abbrev pub JudgedIn : List Form → List Name → Line → ℕ → Bool → Verdict → Type 0
 JudgedIn forms kept given number gates r =

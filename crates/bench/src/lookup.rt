@@ -14,13 +14,13 @@ pub fn position(names: &[Name], name: Name) -> Option<usize>
 }
 
 // The nets of a gate's pins, 0 for an unused one; none where a pin is unknown.
-pub fn pin_nets(names: &[Name], pins: Names) -> Option<[u16; 4]>
-    requires { (length names.now ≤ 1024) × (pins.used ≤ 4) }
-    ensures { PinsPlaced names.now pins result }
+pub fn pin_nets(names: &[Name], pins: &Names) -> Option<[u16; 4]>
+    requires { length names.now ≤ 1024 }
+    ensures { PinsPlaced names.now pins.now.items result }
 {
     let mut nets = [0u16; 4];
-    for p in 0..pins.used {
-        let net = position(names, pins.names[p])?;
+    for (p, pin) in pins.iter().enumerate() {
+        let net = position(names, *pin)?;
         nets[p] = net as u16;
     }
     Some(nets)

@@ -1,6 +1,9 @@
 // Records made from lines.
-ghost use Rattle.std.specs.Prelude.{◌≡◌, ◌/◌, ◌%◌, ◌≤◌, ◌∷◌, [], length, get_or};
+ghost use Rattle.std.specs.Prelude.{◌≡◌, ◌/◌, ◌%◌, ◌≤◌, ◌∷◌, [], get_or};
+ghost use Rattle.arrayvec.specs.ArrayVec.{array_vec_len};
 ghost use Rattle.bench.specs.Records.{input_record, gate_record};
+
+use netlist::GateLine;
 
 // The record of an input, which allows all four excitations.
 pub fn input_record() -> [u8; 20]
@@ -17,20 +20,20 @@ fn bytes_of(net: u16) -> [u8; 2]
 }
 
 // The record of a gate, with the row of its kind.
-pub fn gate_record(list: &[u8], kind: usize, used: usize, nets: [u16; 4]) -> [u8; 20]
-    requires { (length list.now ≡ 64) × (2 ≤ kind) × (kind ≤ 9) × (used ≤ 4) }
-    ensures { result ≡ gate_record list.now kind used (λ p. get_or nets p 0) }
+pub fn gate_record(list: &[u8; 64], gate: &GateLine, nets: [u16; 4]) -> [u8; 20]
+    requires { (2 ≤ gate.now.kind) × (gate.now.kind ≤ 9) }
+    ensures { result ≡ gate_record list.now gate.now.kind (array_vec_len gate.now.pins) (λ p. get_or nets p 0) }
 {
-    let row = 8 * (kind - 2);
+    let row = 8 * (gate.kind - 2);
     let first = bytes_of(nets[0]);
     let second = bytes_of(nets[1]);
     let third = bytes_of(nets[2]);
     let fourth = bytes_of(nets[3]);
     [
-        kind as u8,
+        gate.kind as u8,
         list[row],
         list[row + 1],
-        used as u8,
+        gate.pins.len() as u8,
         first[0],
         first[1],
         second[0],

@@ -1,13 +1,13 @@
 // The lines after the 1,024th record. No table has their names: they are looked up in the text itself. A text in which one of them gives
 // a record is refused in any case.
-ghost use Rattle.std.specs.Prelude.{◌≡◌, ◌+◌, ◌≤◌, length, drop};
+ghost use Rattle.std.specs.Prelude.{◌≡◌};
 ghost use Rattle.netlist.specs.Forms.{forms_of};
-ghost use Rattle.bench.specs.Held.{gives, forms_before, FewPins, GivenIn, KnownIn, AllKnownIn, JudgedIn, JudgedLater};
+ghost use Rattle.bench.specs.Held.{gives, forms_before, GivenIn, KnownIn, AllKnownIn, JudgedIn, JudgedLater};
 
 use super::lookup;
-use crate::Earlier;
+use crate::{Earlier, Progress};
 use block::{Reason, Refusal, check};
-use netlist::{Line, Name, Names};
+use netlist::{Line, Name};
 
 // Whether a line gives a name.
 fn gives(line: Option<Line>, name: Name) -> bool
@@ -25,16 +25,15 @@ impl Earlier<'_> {
     fn gives(&self, name: Name) -> bool
         ensures { GivenIn (forms_before self.now) name result }
     {
-        let mut at = self.from;
-        for passed in 0..self.lines {
-            if self.text.len() <= at {
+        let mut rest = self.text;
+        for _ in 0..self.lines {
+            let Some((line, after)) = netlist::split_line(rest) else {
                 return false;
-            }
-            let span = netlist::line_at(self.text, at);
-            if gives(netlist::read_line(&self.text[at..span.end]), name) {
+            };
+            if gives(netlist::read_line(line), name) {
                 return true;
             }
-            at = span.next;
+            rest = after;
         }
         false
     }
@@ -47,12 +46,11 @@ impl Earlier<'_> {
     }
 
     // Whether all pins of a gate are known.
-    fn knows_all(&self, pins: Names) -> bool
-        requires { pins.used ≤ 4 }
-        ensures { AllKnownIn (forms_before self.now) self.now.names.now pins result }
+    fn knows_all(&self, pins: &[Name]) -> bool
+        ensures { AllKnownIn (forms_before self.now) self.now.names.now pins.now result }
     {
-        for p in 0..pins.used {
-            if !self.knows(pins.names[p]) {
+        for pin in pins {
+            if !self.knows(*pin) {
                 return false;
             }
         }
@@ -60,58 +58,49 @@ impl Earlier<'_> {
     }
 
     // Judges a line that has passed check 17 by itself.
-    fn judge(&self, line: Line, number: usize, gates: bool) -> Result<(), Refusal>
-        requires { FewPins line }
-        ensures { JudgedIn (forms_before self.now) self.now.names.now line number gates result }
+    fn judge(&self, line: &Line, number: usize, gates: bool) -> Result<(), Refusal>
+        ensures { JudgedIn (forms_before self.now) self.now.names.now line.now number gates result }
     {
         let place = number as u64;
         match line {
             Line::Nothing => Ok(()),
             Line::Input(name) => {
-                let new = !self.knows(name);
+                let new = !self.knows(*name);
                 check(Reason::WrongLine, place, !gates)?;
                 check(Reason::WrongName, place, new)
             }
             Line::Gate(gate) => {
                 let new = !self.knows(gate.name);
-                let found = self.knows_all(gate.pins);
+                let found = self.knows_all(&gate.pins);
                 check(Reason::WrongName, place, new & found)
             }
         }
     }
 }
 
-// Judges the lines from byte `from` on, the first of which has the given number: whether one of them gives a record.
-pub fn judge_later(
-    text: &[u8],
-    from: usize,
-    number: usize,
-    gates: bool,
-    names: &[Name],
-) -> Result<bool, Refusal>
-    requires { (from ≤ length text.now) × (number ≤ from + 1) }
-    ensures { JudgedLater (forms_of (drop from text.now)) names.now number gates result }
+// Judges the lines that are left: whether one of them gives a record.
+pub fn judge_later(progress: Progress<'_>, gates: bool, names: &[Name]) -> Result<bool, Refusal>
+    ensures { JudgedLater (forms_of progress.entry.rest.now) names.now progress.entry.number gates result }
 {
-    let mut at = from;
+    let mut rest = progress.rest;
     let mut passed: usize = 0;
     let mut after = gates;
     let mut more = false;
-    // Form kept: no range fits, since only where a line ends tells where the next one starts; an iterator of lines would be a type more.
-    while at < text.len() {
-        let span = netlist::line_at(text, at);
+    // Form kept: no `for` fits, since lines are split off one after the other; an iterator of lines would be a type more.
+    while let Some((bytes, next)) = netlist::split_line(rest) {
+        let number = progress.number + passed;
         let wrong = Refusal {
             reason: Reason::WrongLine,
-            place: (number + passed) as u64,
+            place: number as u64,
         };
-        let line = netlist::read_line(&text[at..span.end]).ok_or(wrong)?;
+        let line = netlist::read_line(bytes).ok_or(wrong)?;
         let earlier = Earlier {
             names,
-            text,
-            from,
+            text: progress.rest,
             lines: passed,
         };
-        earlier.judge(line, number + passed, after)?;
-        at = span.next;
+        earlier.judge(&line, number, after)?;
+        rest = next;
         passed += 1;
         after |= line.is_gate();
         more |= line.name().is_some();

@@ -23,27 +23,27 @@ impl Table {
     }
 
     // Takes the line of a gate that has passed check 17 by itself.
-    fn take_gate(&mut self, gate: GateLine, number: usize, list: &[u8]) -> Result<(), Refusal>
-        requires { (self.old.count < 1024) × (length list.now ≡ 64) × (2 ≤ gate.kind) × (gate.kind ≤ 9) × (gate.pins.used ≤ 4) }
-        ensures { GateTaken gate number list.now self.old self.new result }
+    fn take_gate(&mut self, gate: &GateLine, number: usize, list: &[u8; 64]) -> Result<(), Refusal>
+        requires { (self.old.count < 1024) × (2 ≤ gate.now.kind) × (gate.now.kind ≤ 9) }
+        ensures { GateTaken gate.now number list.now self.old self.new result }
     {
         let place = number as u64;
         let unknown = Refusal {
             reason: Reason::WrongName,
             place,
         };
-        let nets = lookup::pin_nets(self.held(), gate.pins).ok_or(unknown)?;
+        let nets = lookup::pin_nets(self.held(), &gate.pins).ok_or(unknown)?;
         let again = lookup::position(self.held(), gate.name).is_some();
         check(Reason::WrongName, place, !again)?;
-        let record = making::gate_record(list, gate.kind, gate.pins.used, nets);
+        let record = making::gate_record(list, gate, nets);
         self.add(gate.name, record);
         self.gates = true;
         Ok(())
     }
 
     // Takes a line.
-    fn take_line(&mut self, bytes: &[u8], number: usize, list: &[u8]) -> Result<(), Refusal>
-        requires { (self.old.count < 1024) × (length list.now ≡ 64) }
+    fn take_line(&mut self, bytes: &[u8], number: usize, list: &[u8; 64]) -> Result<(), Refusal>
+        requires { self.old.count < 1024 }
         ensures { LineRead (line_form bytes.now) number list.now self.old self.new result }
     {
         let wrong = Refusal {
@@ -53,43 +53,39 @@ impl Table {
         match netlist::read_line(bytes).ok_or(wrong)? {
             Line::Nothing => Ok(()),
             Line::Input(name) => self.take_input(name, number),
-            Line::Gate(gate) => self.take_gate(gate, number, list),
+            Line::Gate(gate) => self.take_gate(&gate, number, list),
         }
     }
 }
 
 // Takes lines from the first on, up to the 1,024th record.
-fn begin(text: &[u8], list: &[u8], table: &mut Table) -> Result<Progress, Refusal>
-    requires { (length list.now ≡ 64) × (table.old.count ≡ 0) × (table.old.gates ≡ false) }
+fn begin<'a>(text: &'a [u8], list: &[u8; 64], table: &mut Table) -> Result<Progress<'a>, Refusal>
+    requires { (table.old.count ≡ 0) × (table.old.gates ≡ false) }
     ensures { Begun text.now list.now table.new result }
 {
-    let mut at: usize = 0;
+    let mut rest = text;
     let mut number: usize = 1;
-    // Form kept: no range fits, since only where a line ends tells where the next one starts, and the caller goes on from where this stops.
-    while at < text.len() && table.count < 1024 {
-        let span = netlist::line_at(text, at);
-        table.take_line(&text[at..span.end], number, list)?;
-        at = span.next;
+    // Form kept: no `for` fits, since lines are split off one after the other, and the caller goes on from where this stops.
+    while table.count < 1024 {
+        let Some((line, after)) = netlist::split_line(rest) else {
+            break;
+        };
+        table.take_line(line, number, list)?;
+        rest = after;
         number += 1;
     }
-    Ok(Progress { at, number })
+    Ok(Progress { rest, number })
 }
 
 // Takes all lines of a text. Those after the 1,024th record are judged too; one of them that gives a record makes the text too long.
-pub fn take_text(text: &[u8], list: &[u8], table: &mut Table) -> Result<(), Refusal>
-    requires { (length list.now ≡ 64) × (table.old.count ≡ 0) × (table.old.gates ≡ false) }
+pub fn take_text(text: &[u8], list: &[u8; 64], table: &mut Table) -> Result<(), Refusal>
+    requires { (table.old.count ≡ 0) × (table.old.gates ≡ false) }
     ensures { TextTaken text.now list.now table.new result }
 {
     let progress = begin(text, list, table)?;
-    if progress.at == text.len() {
+    if progress.rest.is_empty() {
         return Ok(());
     }
-    let more = overflow::judge_later(
-        text,
-        progress.at,
-        progress.number,
-        table.gates,
-        table.held(),
-    )?;
+    let more = overflow::judge_later(progress, table.gates, table.held())?;
     check(Reason::TooManyRecords, 0, !more)
 }

@@ -1,11 +1,13 @@
 -- Laws of names in brackets, as they are read one after the other.
 -- Assumes nothing.
-use Prim.Native.Nat.{ℕ, ◌+◌, ◌≤◌, ◌<◌}
+use Prim.Native.Nat.{ℕ, ◌≤◌, ◌<◌}
 use mathlib.Core.Bool.{Bool, true, false}
-use mathlib.Core.List.{List, [], ◌∷◌, ◌++◌, append_assoc}
+use mathlib.Core.List.{List, [], ◌∷◌, ◌++◌, map, append_assoc}
 use mathlib.Core.Path.{◌≡◌, refl, ap, sym, ◌∙◌}
 use native.Mathlib.Omega.{arith}
-use lib.ListN.{length, drop, set, length-append}
+use lib.ListN.{length, length-append}
+use Rattle.std.proofs.lemmas.List.{length-map, map-append}
+use Rattle.arrayvec.specs.ArrayVec.{ArrayVec, array_vec_len}
 use borrow.Author.Tests.{le-leb, lt-leb}
 use borrow.Table.Steps.{cases}
 use Rattle.std.proofs.Common.{Some, None}
@@ -17,19 +19,9 @@ use Rattle.netlist.specs.declared.Piece.{Piece}
 use Rattle.netlist.specs.Lines.{content}
 use Rattle.netlist.specs.Names.{Letters, is_letter_or_digit, is_name, are_names}
 use Rattle.netlist.specs.Forms.{Part, part, parts_of, begun_by, ended, closed, bracketed}
-use Rattle.netlist.specs.Kept.{name_kept, word_kept, four_kept, brackets_right, brackets_kept, no_name, names_kept, PieceRead}
+use Rattle.netlist.specs.Kept.{name_kept, word_kept, brackets_right, brackets_kept, names_kept, PieceRead}
 use Rattle.netlist.proofs.KnownWords.{names_append}
-use Rattle.netlist.proofs.Parts.{parts_from, piece_parts}
-
--- One name more among the first four.
-four_more : (words : List Letters) (letters : Letters) → length words < 4
-    → set (four_kept words) (length words) (name_kept letters) ≡ four_kept (words ++ (letters ∷ []))
-unfolding four_kept
-four_more [] letters h = refl
-four_more (a ∷ []) letters h = refl
-four_more (a ∷ b ∷ []) letters h = refl
-four_more (a ∷ b ∷ c ∷ []) letters h = refl
-four_more (a ∷ b ∷ c ∷ d ∷ rest) letters h = absurd (omega arith)
+use Rattle.netlist.proofs.Parts.{parts_in, piece_parts}
 
 -- At least one word stands after a bracket, be it empty.
 begun_some : (byte : ℕ) (parts : List Part) → length (begun_by byte parts) ≡ length parts
@@ -72,89 +64,85 @@ right_kept_lem : (parts : List Part) (words : List Letters) → closed parts ≡
 unfolding brackets_kept brackets_right
 right_kept_lem parts words e b n h = rw (e, b, n, le-leb (length words) 4 h) refl
 
--- What is read after a bracket: names, and the rest of it goes on from `at` on.
-pub record NamesSoFar (line : List ℕ) (from : ℕ) (names : List Name) (used at : ℕ) : Type 0 where
+-- What is read after a bracket: names, and `rest` is left.
+pub record NamesSoFar (line : List ℕ) (names : ArrayVec Name) (rest : List ℕ) : Type 0 where
   pub words : List Letters
-  pub many : length words ≡ used
   pub proper : are_names words ≡ true
-  pub kept : names ≡ four_kept words
-  pub closes : closed (parts_from line from) ≡ closed (parts_from line at)
-  pub goes_on : bracketed (parts_from line from) ≡ words ++ bracketed (parts_from line at)
-  pub inside : at ≤ length line
+  pub kept : names.items ≡ map name_kept words
+  pub closes : closed (parts_in line) ≡ closed (parts_in rest)
+  pub goes_on : bracketed (parts_in line) ≡ words ++ bracketed (parts_in rest)
 
-pub names_none : (line : List ℕ) (from : ℕ) (name : Name) → (name.first ≡ 0) × (name.second ≡ 0) → from ≤ length line
-    → NamesSoFar line from (name ∷ name ∷ name ∷ name ∷ []) 0 from
-unfolding are_names four_kept
-names_none line from name e h =
-    let is : record { first = name.first; second = name.second } ≡ no_name = rw (e.0, e.1) refl in
-    let none : name ≡ no_name = is in
-    record { words = []; many = refl; proper = refl; kept = rw none refl; closes = refl; goes_on = refl; inside = h }
+pub names_none : (line : List ℕ) (names : ArrayVec Name) → names.items ≡ [] → NamesSoFar line names line
+unfolding are_names
+names_none line names e = record { words = []; proper = refl; kept = e; closes = refl; goes_on = refl }
 
-module _ (line : List ℕ) (from : ℕ) (names : List Name) (used at : ℕ) (s : NamesSoFar line from names used at) where
-  pub names_many : 4 ≤ used → None ≡ brackets_kept (parts_from line from)
+module _ (line : List ℕ) (names : ArrayVec Name) (rest : List ℕ) (s : NamesSoFar line names rest) where
+  -- As many names are kept as are read.
+  names_counted : array_vec_len names ≡ length s.words
+  names_counted = ap length s.kept ∙ length-map s.words name_kept
+
+  pub names_many : 4 ≤ array_vec_len names → None ≡ brackets_kept (parts_in line)
   names_many h =
-      too_many (parts_from line from)
+      too_many (parts_in line)
       (omega (
         arith,
-        ap length s.goes_on ∙ length-append s.words (bracketed (parts_from line at)),
-        s.many,
-        words_some (parts_from line at) (parts_some (content (drop at line))),
+        ap length s.goes_on ∙ length-append s.words (bracketed (parts_in rest)),
+        names_counted,
+        words_some (parts_in rest) (parts_some (content rest)),
       ))
 
-  module _ (piece : Piece) (r : PieceRead line at piece) where
-    pub names_wrong : is_name r.letters ≡ false → None ≡ brackets_kept (parts_from line from)
+  module _ (piece : Piece) (r : PieceRead rest piece) where
+    pub names_wrong : is_name r.letters ≡ false → None ≡ brackets_kept (parts_in line)
     unfolding bracketed are_names
     names_wrong e =
-        not_names (parts_from line from)
-        (ap are_names s.goes_on ∙ names_append s.words (bracketed (parts_from line at))
+        not_names (parts_in line)
+        (ap are_names s.goes_on ∙ names_append s.words (bracketed (parts_in rest))
         ∙ and_second_fails (are_names s.words) (ap (λ parts. are_names (bracketed parts)) r.is ∙ and_first_fails _ e))
 
-    pub names_stop : closed (part r.letters piece.mark ∷ r.rest) ≡ false → None ≡ brackets_kept (parts_from line from)
-    names_stop e = not_closed (parts_from line from) (s.closes ∙ ap closed r.is ∙ e)
+    pub names_stop : closed (part r.letters piece.mark ∷ r.rest) ≡ false → None ≡ brackets_kept (parts_in line)
+    names_stop e = not_closed (parts_in line) (s.closes ∙ ap closed r.is ∙ e)
 
     -- The names with this one.
-    module _ (few : used < 4) (named : is_name r.letters ≡ true) where
+    module _ (few : array_vec_len names < 4) (named : is_name r.letters ≡ true) {names' : ArrayVec Name}
+        (pushed : names'.items ≡ names.items ++ (piece.word.name ∷ [])) where
       abbrev words' : List Letters
       words' = s.words ++ (r.letters ∷ [])
 
-      many_more : length words' ≡ used + 1
-      many_more = length-append s.words (r.letters ∷ []) ∙ ap (λ n. n + 1) s.many
+      many_more : length words' ≤ 4
+      many_more = omega (arith, length-append s.words (r.letters ∷ []), names_counted)
 
       proper_more : are_names words' ≡ true
       unfolding are_names
       proper_more = names_append s.words (r.letters ∷ []) ∙ and_both s.proper (and_both named refl)
 
-      kept_more : set names used piece.word.name ≡ four_kept words'
+      kept_more : names'.items ≡ map name_kept words'
       unfolding word_kept
-      kept_more = rw (s.kept, ← s.many, ap (λ word. word.name) r.word) (four_more s.words r.letters (omega (arith, s.many)))
+      kept_more = pushed ∙ rw (s.kept, ap (λ word. word.name) r.word, map-append name_kept s.words (r.letters ∷ [])) refl
 
-      pub names_more : piece.mark ≡ Comma → NamesSoFar line from (set names used piece.word.name) (used + 1) piece.next
+      pub names_more : piece.mark ≡ Comma → NamesSoFar line names' piece.rest.now
       unfolding closed bracketed
       names_more m =
-          let parts = piece_parts line at piece r Comma refl m in
+          let parts = piece_parts rest piece r Comma refl m in
           record {
             words = words';
-            many = many_more;
             proper = proper_more;
             kept = kept_more;
             closes = s.closes ∙ ap closed parts;
             goes_on = s.goes_on ∙ ap (λ parts. s.words ++ bracketed parts) parts
-                ∙ sym (append_assoc s.words (r.letters ∷ []) (bracketed (parts_from line piece.next)));
-            inside = r.inside;
+                ∙ sym (append_assoc s.words (r.letters ∷ []) (bracketed (parts_in piece.rest.now)));
           }
 
       module _ (m : piece.mark ≡ Close) where
-        last : closed (parts_from line from) ≡ ended (parts_from line piece.next)
+        last : closed (parts_in line) ≡ ended (parts_in piece.rest.now)
         unfolding closed
-        last = s.closes ∙ ap closed (piece_parts line at piece r Close refl m)
+        last = s.closes ∙ ap closed (piece_parts rest piece r Close refl m)
 
         -- The other bracket has come: the names are right if it is the last of the line.
-        pub names_closed : (end : Bool) → end ≡ ended (parts_from line piece.next)
-            → then_some end (record { used = used + 1; names = set names used piece.word.name }) ≡ brackets_kept (parts_from line from)
+        pub names_closed : (end : Bool) → end ≡ ended (parts_in piece.rest.now) → then_some end names' ≡ brackets_kept (parts_in line)
         unfolding bracketed
-        names_closed false e = not_closed (parts_from line from) (last ∙ sym e)
+        names_closed false e = not_closed (parts_in line) (last ∙ sym e)
         names_closed true e =
-            let all : bracketed (parts_from line from) ≡ words' =
-            s.goes_on ∙ ap (λ parts. s.words ++ bracketed parts) (piece_parts line at piece r Close refl m) in
-            rw (kept_more, ← many_more)
-            (right_kept_lem (parts_from line from) words' (last ∙ sym e) all proper_more (omega (arith, many_more)))
+            let all : bracketed (parts_in line) ≡ words' =
+            s.goes_on ∙ ap (λ parts. s.words ++ bracketed parts) (piece_parts rest piece r Close refl m) in
+            let is : names' ≡ names_kept words' = ap (λ (items : List Name). record { items = items }) kept_more in
+            rw is (right_kept_lem (parts_in line) words' (last ∙ sym e) all proper_more many_more)

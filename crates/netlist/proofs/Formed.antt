@@ -1,8 +1,8 @@
 -- Laws of lines by their form: what makes a line of each form wrong, and how a right one is kept.
 -- Assumes nothing.
-use Prim.Native.Nat.{ℕ, ◌<◌}
+use Prim.Native.Nat.{ℕ, ◌≤◌, ◌<◌}
 use mathlib.Core.Bool.{Bool, true, false, ◌&&◌, cond, and-true, false≢true}
-use mathlib.Core.List.{List, [], ◌∷◌}
+use mathlib.Core.List.{List, [], ◌∷◌, map}
 use mathlib.Core.Path.{◌≡◌, refl, ap, sym, ◌∙◌}
 use native.Mathlib.Omega.{arith}
 use lib.Dec.{eqb}
@@ -11,22 +11,24 @@ use borrow.Author.Tests.{leb-false, eqb-true}
 use borrow.Table.Steps.{cases}
 use Rattle.std.proofs.Common.{Some, None}
 use Rattle.std.specs.Bool.{then_some}
+use Rattle.arrayvec.specs.ArrayVec.{ArrayVec, array_vec_len}
+use Rattle.std.proofs.lemmas.List.{length-map}
 use Rattle.laws.specs.Ascii.{ascii}
 use Rattle.laws.proofs.Tests.{and_left, and_right, and_first_fails, and_second_fails}
 use Rattle.block.specs.Refusals.{within}
 use Rattle.netlist.specs.declared.Line.TheVariants.{Nothing, Input, Gate}
 use Rattle.netlist.specs.declared.Mark.TheVariants.{Open}
-use Rattle.netlist.specs.declared.Names.{Names}
+use Rattle.netlist.specs.declared.Name.{Name}
 use Rattle.netlist.specs.Names.{Letters, is_letter_or_digit, lettered, is_name, are_names, same}
 use Rattle.netlist.specs.Forms.{Part, part, closed, bracketed, Form, gate, none, declaring, declared, assigned, form_right}
 use Rattle.netlist.specs.Forms.{kind_named, pins_allowed}
-use Rattle.netlist.specs.Kept.{number_of, short_number, name_kept, kept_at, four_kept, no_name, brackets_right, brackets_kept}
+use Rattle.netlist.specs.Kept.{number_of, short_number, name_kept, brackets_right, brackets_kept}
 use Rattle.netlist.specs.Kept.{kind_kept, names_kept, line_kept}
 use Rattle.netlist.proofs.Packing.{short_same}
 use Rattle.netlist.proofs.RightGates.{kind_low, pins_few}
 
 -- Names in brackets that are right.
-record RightBrackets (parts : List Part) (names : Names) : Type 0 where
+record RightBrackets (parts : List Part) (names : ArrayVec Name) : Type 0 where
   pub closes : closed parts ≡ true
   pub proper : are_names (bracketed parts) ≡ true
   pub kept : names ≡ names_kept (bracketed parts)
@@ -38,7 +40,7 @@ fails true false c e f g h = g refl
 fails false b c e f g h = f refl
 
 module _ (parts : List Part) where
-  brackets_right_lem : {names : Names} → Some names ≡ brackets_kept parts → RightBrackets parts names
+  brackets_right_lem : {names : ArrayVec Name} → Some names ≡ brackets_kept parts → RightBrackets parts names
   unfolding brackets_kept brackets_right
   brackets_right_lem {names} is =
       cases (brackets_right parts)
@@ -78,18 +80,24 @@ declaring_many letters [] h = refl
 declaring_many letters (name ∷ []) h = absurd (h refl)
 declaring_many letters (name ∷ second ∷ rest) h = refl
 
+-- A list of one name.
+pub single : (kept : List Name) (d : Name) → 1 ≤ length kept → length kept < 2 → kept ≡ get_or kept 0 d ∷ []
+single [] d some few = absurd (omega arith)
+single (name ∷ []) d some few = refl
+single (name ∷ second ∷ rest) d some few = absurd (omega arith)
+
 -- With one name in the brackets, the word before them decides.
-declaring_one : (letters : Letters) (words : List Letters) → length words ≡ 1 → are_names words ≡ true
+declaring_one : (letters : Letters) (words : List Letters) (kept : Name) → map name_kept words ≡ kept ∷ [] → are_names words ≡ true
     → line_kept (declaring letters words)
-    ≡ cond (same letters (ascii "INPUT")) (Some (Input (kept_at words 0)))
-    (cond (same letters (ascii "OUTPUT")) (Some Nothing) None)
+    ≡ cond (same letters (ascii "INPUT")) (Some (Input kept)) (cond (same letters (ascii "OUTPUT")) (Some Nothing) None)
 unfolding declaring line_kept form_right are_names
-declaring_one letters [] one proper = absurd (omega arith)
-declaring_one letters (name ∷ []) one proper =
+declaring_one letters [] kept one proper = cc
+declaring_one letters (name ∷ []) kept one proper =
     let right : is_name name ≡ true = and_left (is_name name) true proper in
-    cases (same letters (ascii "INPUT")) (λ t. rw (t, right) refl)
+    let is : name_kept name ≡ kept = cc in
+    cases (same letters (ascii "INPUT")) (λ t. rw (t, right, is) refl)
     (λ t. cases (same letters (ascii "OUTPUT")) (λ u. rw (t, u, right) refl) (λ u. rw (t, u) refl))
-declaring_one letters (name ∷ second ∷ rest) one proper = absurd (omega arith)
+declaring_one letters (name ∷ second ∷ rest) kept one proper = cc
 
 module _ (letters : Letters) (parts : List Part) where
   not_closed : closed parts ≡ false → None ≡ line_kept (declared letters parts)
@@ -107,26 +115,26 @@ module _ (letters : Letters) (parts : List Part) where
       (λ u. by_words (declaring_wrong letters (bracketed parts) u))
       (λ h. by_words (declaring_many letters (bracketed parts) (λ one. omega arith)))
 
-  module _ {names : Names} (is : Some names ≡ brackets_kept parts) where
-    pub declared_many : (names.used ≡ 1 → ⊥) → None ≡ line_kept (declared letters parts)
+  module _ {names : ArrayVec Name} (is : Some names ≡ brackets_kept parts) where
+    pub declared_many : (array_vec_len names ≡ 1 → ⊥) → None ≡ line_kept (declared letters parts)
     declared_many other =
-        by_words (declaring_many letters (bracketed parts) (λ one. other (ap (λ names. names.used) (brackets_right_lem parts is).kept ∙ one)))
+        let kept = (brackets_right_lem parts is).kept in
+        by_words
+        (declaring_many letters (bracketed parts) (λ one. other (ap array_vec_len kept ∙ length-map (bracketed parts) name_kept ∙ one)))
 
-    pub declared_right : names.used ≡ 1 → lettered letters ≡ true → (number : ℕ) → number ≡ short_number letters
+    pub declared_right : (kept : Name) → names.items ≡ kept ∷ [] → lettered letters ≡ true → (number : ℕ) → number ≡ short_number letters
         → line_kept (declared letters parts)
-        ≡ cond (eqb number (number_of (ascii "INPUT"))) (Some (Input (get_or names.names 0 no_name)))
-        (cond (eqb number (number_of (ascii "OUTPUT"))) (Some Nothing) None)
-    unfolding declared four_kept lettered is_letter_or_digit within
-    declared_right one l number n =
+        ≡ cond (eqb number (number_of (ascii "INPUT"))) (Some (Input kept)) (cond (eqb number (number_of (ascii "OUTPUT"))) (Some Nothing) None)
+    unfolding declared lettered is_letter_or_digit within
+    declared_right kept one l number n =
         let right = brackets_right_lem parts is in
         rw (
           right.closes,
-          right.kept,
           n,
           short_same letters (ascii "INPUT") l refl (omega arith) (omega arith),
           short_same letters (ascii "OUTPUT") l refl (omega arith) (omega arith),
         )
-        (declaring_one letters (bracketed parts) (sym (ap (λ names. names.used) right.kept) ∙ one) right.proper)
+        (declaring_one letters (bracketed parts) kept (sym (ap (λ names. names.items) right.kept) ∙ one) right.proper)
 
 -- `name=KIND(name,...)`.
 
@@ -173,14 +181,14 @@ module _ (letters word : Letters) (parts : List Part) (all : List Part) (from : 
       ∙ sym assigned_open
 
   -- What the code makes of it, by its tests of the name and of the pin count.
-  pub assigned_right : {names : Names} {kind : ℕ} {named counted : Bool} → Some names ≡ brackets_kept parts → Some kind ≡ kind_kept word
-      → named ≡ is_name letters → counted ≡ pins_allowed kind names.used
+  pub assigned_right : {names : ArrayVec Name} {kind : ℕ} {named counted : Bool} → Some names ≡ brackets_kept parts → Some kind ≡ kind_kept word
+      → named ≡ is_name letters → counted ≡ pins_allowed kind (array_vec_len names)
       → then_some (named && counted) (Gate (record { kind = kind; name = name_kept letters; pins = names })) ≡ line_kept (assigned letters all)
   unfolding line_kept form_right
   assigned_right {names} {kind} {named} {counted} is kind_is named_is counted_is =
       let right = brackets_right_lem parts is in
       let known : kind ≡ kind_named word =
       cases (eqb (kind_named word) 0) (λ t. let told = rw t at kind_is in cc) (λ t. let told = rw t at kind_is in cc) in
-      rw (named_is, counted_is, known, right.kept, right.closes, right.proper)
+      rw (named_is, counted_is, known, right.kept, right.closes, right.proper, length-map (bracketed parts) name_kept)
       (cases (is_name letters && pins_allowed (kind_named word) (length (bracketed parts))) (λ t. rw t refl) (λ t. rw t refl))
       ∙ sym assigned_open

@@ -231,7 +231,7 @@ module _ (kept : Word) (word : Letters) (is : kept ≡ word_kept word) where
   unfolding word_kept
   kept_length = ap (λ (w : Word). w.length) is
 
-  pub name_told : lettered word ≡ true → (leb 1 kept.length && leb kept.length 16) ≡ is_name word
+  pub name_told : lettered word ≡ true → within 1 16 kept.length ≡ is_name word
   unfolding is_name within
   name_told proper =
       let count = kept_length in

@@ -73,10 +73,13 @@ begun_more : (letters : Letters) (byte : ℕ) (parts : List Part)
 begun_more letters byte [] = refl
 begun_more letters byte (first ∷ rest) = ap (λ word. part word first.mark ∷ rest) (sym (append_assoc letters (byte ∷ []) first.word))
 
--- The parts of a line from a byte on, and that byte.
+-- The parts of a line, and of what is left of it from a byte on, and that byte.
 
-abbrev pub parts_from : List ℕ → ℕ → List Part
-parts_from line at = parts_of (content (drop at line))
+abbrev pub parts_in : List ℕ → List Part
+parts_in line = parts_of (content line)
+
+abbrev parts_from : List ℕ → ℕ → List Part
+parts_from line at = parts_in (drop at line)
 
 abbrev byte_at : List ℕ → ℕ → ℕ
 byte_at line at = get_or line at 0
@@ -112,71 +115,67 @@ unfolding content uncommented without_blanks parts_of
 at_end line at h = rw (drop_of_length-le line h) refl
 
 -- What is read of a piece: letters, and the piece goes on with the parts from `at` on.
-pub record PieceSoFar (line : List ℕ) (from : ℕ) (word : Word) (at : ℕ) : Type 0 where
+pub record PieceSoFar (line : List ℕ) (word : Word) (at : ℕ) : Type 0 where
   pub letters : Letters
   pub kept : word ≡ word_kept letters
   pub proper : lettered letters ≡ true
-  pub goes_on : parts_from line from ≡ begun_with letters (parts_from line at)
-  pub inside : at ≤ length line
+  pub goes_on : parts_in line ≡ begun_with letters (parts_from line at)
 
-pub piece_begun : (line : List ℕ) (from : ℕ) (word : Word) → ((word.name.first ≡ 0) × (word.name.second ≡ 0)) × (word.length ≡ 0)
-    → from ≤ length line → PieceSoFar line from word from
+pub piece_begun : (line : List ℕ) (word : Word) → ((word.name.first ≡ 0) × (word.name.second ≡ 0)) × (word.length ≡ 0)
+    → PieceSoFar line word 0
 unfolding lettered
-piece_begun line from word e h = record { letters = []; kept = kept_none word e; proper = refl; goes_on = begun_none _; inside = h }
+piece_begun line word e = record { letters = []; kept = kept_none word e; proper = refl; goes_on = begun_none _ }
 
 -- The piece that the letters so far make with the first of the parts that are left.
-piece_read : (line : List ℕ) (from at next : ℕ) (word : Word) (mark : Mark) (rest : List Part) → PieceSoFar line from word at
-    → parts_from line at ≡ part [] mark ∷ rest
-    → (is_end mark ≡ false → rest ≡ parts_from line next) → next ≤ length line
-    → PieceRead line from (record { word = word; mark = mark; next = next })
-piece_read line from at next word mark rest s e goes_on inside = record {
+piece_read : (line : List ℕ) (at : ℕ) (piece : Piece) (rest : List Part) → PieceSoFar line piece.word at
+    → parts_from line at ≡ part [] piece.mark ∷ rest
+    → (is_end piece.mark ≡ false → rest ≡ parts_in piece.rest.now) → PieceRead line piece
+piece_read line at piece rest s e goes_on = record {
   letters = s.letters;
   rest = rest;
-  is = s.goes_on ∙ ap (begun_with s.letters) e ∙ ap (λ letters. part letters mark ∷ rest) (append-nil s.letters);
+  is = s.goes_on ∙ ap (begun_with s.letters) e ∙ ap (λ letters. part letters piece.mark ∷ rest) (append-nil s.letters);
   word = s.kept;
   proper = s.proper;
   goes_on = goes_on;
-  inside = inside;
 }
 
 -- What one byte more makes of a piece.
-module _ (line : List ℕ) (from : ℕ) (word : Word) (at : ℕ) (s : PieceSoFar line from word at) where
-  piece_last : parts_from line at ≡ part [] End ∷ [] → PieceRead line from (record { word = word; mark = End; next = at })
-  piece_last e = piece_read line from at at word End [] s e (λ t. absurd (false≢true (sym t))) s.inside
+module _ (line : List ℕ) (word : Word) (at : ℕ) (s : PieceSoFar line word at) where
+  piece_last : parts_from line at ≡ part [] End ∷ [] → (piece : Piece) → piece.word ≡ word → piece.mark ≡ End → PieceRead line piece
+  piece_last e piece w m =
+      piece_read line at piece [] (rw w s) (rw m e) (λ t. absurd (false≢true (sym t ∙ ap is_end m)))
 
-  pub piece_ended : length line ≤ at → PieceRead line from (record { word = word; mark = End; next = at })
+  pub piece_ended : length line ≤ at → (piece : Piece) → piece.word ≡ word → piece.mark ≡ End → PieceRead line piece
   piece_ended h = piece_last (at_end line at h)
 
   module _ (on : at < length line) where
-    pub piece_commented : byte_at line at ≡ 35 → PieceRead line from (record { word = word; mark = End; next = at })
+    pub piece_commented : byte_at line at ≡ 35 → (piece : Piece) → piece.word ≡ word → piece.mark ≡ End → PieceRead line piece
     piece_commented e = piece_last (at_comment line at on e)
 
     module _ (other : byte_at line at ≡ 35 → ⊥) where
       pub piece_letter : (word' : Word) → is_letter_or_digit (byte_at line at) ≡ true
-          → OfLetters word (λ letters. word' ≡ word_kept (letters ++ (byte_at line at ∷ []))) → PieceSoFar line from word' (at + 1)
+          → OfLetters word (λ letters. word' ≡ word_kept (letters ++ (byte_at line at ∷ []))) → PieceSoFar line word' (at + 1)
       piece_letter word' e kept = record {
         letters = s.letters ++ (byte_at line at ∷ []);
         kept = kept s.letters s.kept s.proper;
         proper = lettered_more s.letters (byte_at line at) s.proper e;
         goes_on = s.goes_on ∙ ap (begun_with s.letters) (at_letter line at on other e)
             ∙ begun_more s.letters (byte_at line at) (parts_from line (at + 1));
-        inside = omega arith;
       }
 
-      pub piece_blank : is_blank (byte_at line at) ≡ true → PieceSoFar line from word (at + 1)
+      pub piece_blank : is_blank (byte_at line at) ≡ true → PieceSoFar line word (at + 1)
       piece_blank e = record {
         letters = s.letters;
         kept = s.kept;
         proper = s.proper;
         goes_on = s.goes_on ∙ ap (begun_with s.letters) (at_blank line at on other e);
-        inside = omega arith;
       }
 
-      pub piece_marked : (mark : Mark) → is_blank (byte_at line at) ≡ false → is_letter_or_digit (byte_at line at) ≡ false
-          → mark ≡ mark_of (byte_at line at) → PieceRead line from (record { word = word; mark = mark; next = at + 1 })
-      piece_marked mark e f m =
-          piece_read line from at (at + 1) word mark (parts_from line (at + 1)) s
-          (at_mark line at on other e f ∙ ap (λ m. part [] m ∷ parts_from line (at + 1)) (sym m)) (λ t. refl) (omega arith)
+      pub piece_marked : (piece : Piece) → piece.word ≡ word → is_blank (byte_at line at) ≡ false → is_letter_or_digit (byte_at line at) ≡ false
+          → piece.mark ≡ mark_of (byte_at line at) → piece.rest.now ≡ drop (at + 1) line → PieceRead line piece
+      piece_marked piece w e f m r =
+          piece_read line at piece (parts_from line (at + 1)) (rw w s)
+          (at_mark line at on other e f ∙ ap (λ m. part [] m ∷ parts_from line (at + 1)) (sym m)) (λ t. ap parts_in (sym r))
 
 -- A word that has no letter.
 pub kept_empty : (letters : Letters) (word : Word) → word ≡ word_kept letters → eqb word.length 0 ≡ is_empty letters
@@ -185,12 +184,11 @@ kept_empty [] word e = rw e refl
 kept_empty (letter ∷ rest) word e = rw e (ne_eqb (min (suc (length rest)) 17) 0 (λ z. omega arith))
 
 -- The parts from a piece on, where the line goes on after it.
-pub piece_parts : (line : List ℕ) (at : ℕ) (piece : Piece) (r : PieceRead line at piece) (mark : Mark) → is_end mark ≡ false
-    → piece.mark ≡ mark → parts_from line at ≡ part r.letters mark ∷ parts_from line piece.next
-piece_parts line at piece r mark e m =
+pub piece_parts : (line : List ℕ) (piece : Piece) (r : PieceRead line piece) (mark : Mark) → is_end mark ≡ false
+    → piece.mark ≡ mark → parts_in line ≡ part r.letters mark ∷ parts_in piece.rest.now
+piece_parts line piece r mark e m =
     r.is ∙ ap (λ mark. part r.letters mark ∷ r.rest) m ∙ ap (λ rest. part r.letters mark ∷ rest) (r.goes_on (ap is_end m ∙ e))
 
 -- What is said of the word of a piece by its letters.
-pub of_piece : {line : List ℕ} {at : ℕ} {piece : Piece} (P : Letters → Type 0) (r : PieceRead line at piece) → OfLetters piece.word P
-    → P r.letters
+pub of_piece : {line : List ℕ} {piece : Piece} (P : Letters → Type 0) (r : PieceRead line piece) → OfLetters piece.word P → P r.letters
 of_piece P r said = said r.letters r.word r.proper

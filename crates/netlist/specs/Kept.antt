@@ -1,12 +1,11 @@
 -- How the code keeps words, names and lines, and what its functions promise of them.
-use Rattle.std.specs.Prelude.{ℕ, ◌+◌, ◌-◌, ◌*◌, ◌≤◌, ◌<◌, min, Bool, true, false, cond, ◌&&◌, Option, Some, None, List, [], ◌∷◌, map, reverse, ◌≡◌, leb, eqb, length, get_or, take, drop}
+use Rattle.std.specs.Prelude.{ℕ, ◌+◌, ◌*◌, ◌<◌, min, Bool, true, false, cond, ◌&&◌, Option, Some, None, List, [], ◌∷◌, map, reverse, ◌≡◌, leb, eqb, length, take, drop}
+use Rattle.arrayvec.specs.ArrayVec.{ArrayVec}
 use Rattle.netlist.specs.declared.GateLine.{GateLine}
 use Rattle.netlist.specs.declared.Line.{Line}
 use Rattle.netlist.specs.declared.Line.TheVariants.{Nothing, Input, Gate}
 use Rattle.netlist.specs.declared.Name.{Name}
-use Rattle.netlist.specs.declared.Names.{Names}
 use Rattle.netlist.specs.declared.Piece.{Piece}
-use Rattle.netlist.specs.declared.Span.{Span}
 use Rattle.netlist.specs.declared.Word.{Word}
 use Rattle.netlist.specs.Lines.{lines_of, content}
 use Rattle.netlist.specs.Names.{Letters, are_names, lettered}
@@ -48,22 +47,15 @@ same_name a b = eqb a.first b.first && eqb a.second b.second
 abbrev pub no_name : Name
 no_name = record { first = 0; second = 0 }
 
--- The first four of the names, and none past them.
-abbrev pub kept_at : List Letters → ℕ → Name
-kept_at words p = get_or (map name_kept words) p no_name
-
-unfoldable pub four_kept : List Letters → List Name
-four_kept words = kept_at words 0 ∷ kept_at words 1 ∷ kept_at words 2 ∷ kept_at words 3 ∷ []
-
 -- Words in brackets that a line may have: names, four at most.
 unfoldable pub brackets_right : List Part → Bool
 brackets_right parts = closed parts && (are_names (bracketed parts) && leb (length (bracketed parts)) 4)
 
--- They are kept with how many they are.
-abbrev pub names_kept : List Letters → Names
-names_kept words = record { used = length words; names = four_kept words }
+-- They are kept in their order.
+abbrev pub names_kept : List Letters → ArrayVec Name
+names_kept words = record { items = map name_kept words }
 
-unfoldable pub brackets_kept : List Part → Option Names
+unfoldable pub brackets_kept : List Part → Option (ArrayVec Name)
 brackets_kept parts = cond (brackets_right parts) (Some (names_kept (bracketed parts))) None
 
 -- A gate is kept with its kind, its name and its pins.
@@ -93,20 +85,16 @@ line_is_gate Nothing = false
 line_is_gate (Input name) = false
 line_is_gate (Gate given) = true
 
--- A line that starts at a byte of a text: up to its end, with the next line after it.
-pub record LineAt (text : List ℕ) (at : ℕ) (span : Span) : Type 0 where
-  pub is : lines_of (drop at text) ≡ take (span.end - at) (drop at text) ∷ lines_of (drop span.next text)
-  pub from : at ≤ span.end
-  pub to : span.end ≤ length text
-  pub on : at < span.next
-  pub inside : span.next ≤ length text
+-- The first line of a text, with what is left of the text after it.
+pub record FirstLine (text line rest : List ℕ) : Type 0 where
+  pub is : lines_of text ≡ line ∷ lines_of rest
+  pub shorter : length rest < length text
 
--- The piece of a line that starts at byte `from`, read: the first part of the content from there on, and where the next one starts.
-pub record PieceRead (line : List ℕ) (from : ℕ) (piece : Piece) : Type 0 where
+-- The piece that a line starts with, read: the first part of its content, and what is left of the line after it.
+pub record PieceRead (line : List ℕ) (piece : Piece) : Type 0 where
   pub letters : Letters
   pub rest : List Part
-  pub is : parts_of (content (drop from line)) ≡ part letters piece.mark ∷ rest
+  pub is : parts_of (content line) ≡ part letters piece.mark ∷ rest
   pub word : piece.word ≡ word_kept letters
   pub proper : lettered letters ≡ true
-  pub goes_on : is_end piece.mark ≡ false → rest ≡ parts_of (content (drop piece.next line))
-  pub inside : piece.next ≤ length line
+  pub goes_on : is_end piece.mark ≡ false → rest ≡ parts_of (content piece.rest.now)

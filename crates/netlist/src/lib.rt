@@ -1,11 +1,13 @@
 // Bench text: the line, its words and names, and the form that it has.
 #![tactic(auto)]
 
-ghost use Rattle.std.specs.Prelude.{◌≡◌, ◌≤◌, ◌<◌, ◌==◌, length, drop};
+ghost use Rattle.std.specs.Prelude.{[], MatchOption, ◌≡◌, ◌≤◌, ◌<◌, ◌==◌, length, drop};
 ghost use Rattle.std.specs.List.{position};
 ghost use Rattle.netlist.specs.Lines.{content};
 ghost use Rattle.netlist.specs.Forms.{parts_of, declared, assigned, line_form};
-ghost use Rattle.netlist.specs.Kept.{LineAt, line_kept, line_name, line_is_gate, OfLetters};
+ghost use Rattle.netlist.specs.Kept.{FirstLine, line_kept, line_name, line_is_gate, OfLetters};
+
+use arrayvec::ArrayVec;
 
 mod brackets;
 mod pieces;
@@ -36,23 +38,19 @@ pub enum Mark {
     End,
 }
 
-// A word, the mark after it, and where the line goes on.
+// A word, the mark after it, and what is left of the line after that.
 #[derive(Clone, Copy)]
-pub struct Piece {
+pub struct Piece<'a> {
     pub word: Word,
     pub mark: Mark,
-    pub next: usize,
+    pub rest: &'a [u8],
 }
 
-// Names in brackets: how many of the four places are used, and each of the names.
-#[derive(Clone, Copy)]
-pub struct Names {
-    pub used: usize,
-    pub names: [Name; 4],
-}
+// Names in brackets, four at most.
+pub type Names = ArrayVec<Name, 4>;
 
 // A gate as its line has it: its kind, as document 01 numbers kinds, its name and its pins' names, as many as its pin count.
-#[derive(Clone, Copy)]
+#[derive(Drop)]
 pub struct GateLine {
     pub kind: usize,
     pub name: Name,
@@ -60,7 +58,7 @@ pub struct GateLine {
 }
 
 // A line that is right by itself, by the record that it gives: none, an input's or a gate's.
-#[derive(Clone, Copy)]
+#[derive(Drop)]
 pub enum Line {
     Nothing,
     Input(Name),
@@ -69,32 +67,25 @@ pub enum Line {
 
 impl Line {
     // The name that a line gives to a record, if any.
-    pub fn name(self) -> Option<Name>
-        ensures { result ≡ line_name self }
+    pub fn name(&self) -> Option<Name>
+        ensures { result ≡ line_name self.now }
     {
         match self {
             Line::Nothing => None,
-            Line::Input(name) => Some(name),
+            Line::Input(name) => Some(*name),
             Line::Gate(gate) => Some(gate.name),
         }
     }
 
     // Whether a line is a gate.
-    pub fn is_gate(self) -> bool
-        ensures { result ≡ line_is_gate self }
+    pub fn is_gate(&self) -> bool
+        ensures { result ≡ line_is_gate self.now }
     {
         match self {
             Line::Nothing | Line::Input(_) => false,
             Line::Gate(_) => true,
         }
     }
-}
-
-// Where a line of a text ends, and where the next one starts.
-#[derive(Clone, Copy)]
-pub struct Span {
-    pub end: usize,
-    pub next: usize,
 }
 
 // Where the first line of a text ends, if a byte 10 ends it.
@@ -104,52 +95,43 @@ fn first_end(text: &[u8]) -> Option<usize>
     text.iter().position(|byte| *byte == 10)
 }
 
-// The line that starts at a byte of a text.
-pub fn line_at(text: &[u8], at: usize) -> Span
-    requires { at < length text.now }
-    ensures { LineAt text.now at result }
+// The first line of a text, and what is left of the text after it; an empty text has none.
+pub fn split_line(text: &[u8]) -> Option<(&[u8], &[u8])>
+    ensures { MatchOption result (text.now ≡ []) (λ split. FirstLine text.now split.0.now split.1.now) }
 {
-    let length = text.len();
-    match first_end(&text[at..]) {
-        Some(before) => {
-            let end = at + before;
-            Span { end, next: end + 1 }
-        }
-        None => Span {
-            end: length,
-            next: length,
-        },
+    match first_end(text) {
+        Some(end) => Some((&text[..end], &text[end + 1..])),
+        None if text.is_empty() => None,
+        None => Some((text, &[])),
     }
 }
 
-// INPUT or OUTPUT, by the number of the word, from the word before the bracket and where the line goes on after it.
-fn declaration(line: &[u8], word: Word, at: usize) -> Option<Line>
-    requires { at ≤ length line.now }
-    ensures { OfLetters word (λ letters. result ≡ line_kept (declared letters (parts_of (content (drop at line.now))))) }
+// INPUT or OUTPUT, by the number of the word, from the word before the bracket and what is left of the line after it.
+fn declaration(word: Word, rest: &[u8]) -> Option<Line>
+    ensures { OfLetters word (λ letters. result ≡ line_kept (declared letters (parts_of (content rest.now)))) }
 {
-    let names = brackets::read_names(line, at)?;
-    if names.used != 1 {
+    let names = brackets::read_names(rest)?;
+    if names.len() != 1 {
         return None;
     }
     match word.short() {
-        0x494e505554 => Some(Line::Input(names.names[0])),
+        0x494e505554 => Some(Line::Input(names[0])),
         0x4f5554505554 => Some(Line::Nothing),
         _ => None,
     }
 }
 
-// A gate, from its name and where the line goes on after the `=`.
-fn assignment(line: &[u8], name: Word, at: usize) -> Option<Line>
-    requires { at ≤ length line.now }
-    ensures { OfLetters name (λ letters. result ≡ line_kept (assigned letters (parts_of (content (drop at line.now))))) }
+// A gate, from its name and what is left of the line after the `=`.
+fn assignment(name: Word, rest: &[u8]) -> Option<Line>
+    ensures { OfLetters name (λ letters. result ≡ line_kept (assigned letters (parts_of (content rest.now)))) }
 {
-    let piece = pieces::read_piece(line, at);
+    let piece = pieces::read_piece(rest);
     let Mark::Open = piece.mark else {
         return None;
     };
-    let pins = brackets::read_names(line, piece.next)?;
+    let pins = brackets::read_names(piece.rest)?;
     let kind = piece.word.kind()?;
-    let right = name.is_name() & words::pin_count_right(kind, pins.used);
+    let right = name.is_name() & words::pin_count_right(kind, pins.len());
     right.then_some(Line::Gate(GateLine {
         kind,
         name: name.name,
@@ -161,11 +143,11 @@ fn assignment(line: &[u8], name: Word, at: usize) -> Option<Line>
 pub fn read_line(line: &[u8]) -> Option<Line>
     ensures { result ≡ line_kept (line_form line.now) }
 {
-    let first = pieces::read_piece(line, 0);
+    let first = pieces::read_piece(line);
     match first.mark {
         Mark::End => (first.word.length == 0).then_some(Line::Nothing),
-        Mark::Open => declaration(line, first.word, first.next),
-        Mark::Equals => assignment(line, first.word, first.next),
+        Mark::Open => declaration(first.word, first.rest),
+        Mark::Equals => assignment(first.word, first.rest),
         Mark::Comma | Mark::Close | Mark::Other => None,
     }
 }

@@ -1,5 +1,5 @@
 // A line, piece by piece.
-ghost use Rattle.std.specs.Prelude.{◌≡◌, ◌≤◌, length};
+ghost use Rattle.std.specs.Prelude.{◌≡◌};
 ghost use Rattle.netlist.specs.Lines.{is_blank};
 ghost use Rattle.netlist.specs.Forms.{mark_of};
 ghost use Rattle.netlist.specs.Kept.{PieceRead};
@@ -28,34 +28,28 @@ impl From<u8> for Mark {
     }
 }
 
-// Reads the word that starts at byte `from`, and the mark after it.
-pub fn read_piece(line: &[u8], from: usize) -> Piece
-    requires { from ≤ length line.now }
-    ensures { PieceRead line.now from result }
+// Reads the word that a line starts with, and the mark after it.
+pub fn read_piece(line: &[u8]) -> Piece<'_>
+    ensures { PieceRead line.now result }
 {
     let mut word = Word::default();
-    for at in from..line.len() {
-        let byte = line[at];
-        if byte == b'#' {
-            return Piece {
-                word,
-                mark: Mark::End,
-                next: at,
-            };
+    for (at, byte) in line.iter().enumerate() {
+        if *byte == b'#' {
+            break;
         }
         if byte.is_ascii_alphanumeric() {
-            word = word.with(byte);
-        } else if !is_blank(byte) {
+            word = word.with(*byte);
+        } else if !is_blank(*byte) {
             return Piece {
                 word,
-                mark: Mark::from(byte),
-                next: at + 1,
+                mark: Mark::from(*byte),
+                rest: &line[at + 1..],
             };
         }
     }
     Piece {
         word,
         mark: Mark::End,
-        next: line.len(),
+        rest: &[],
     }
 }

@@ -46,7 +46,7 @@ impl Word {
     pub fn is_name(self) -> bool
         ensures { OfLetters self (λ letters. result ≡ is_name letters) }
     {
-        (1 <= self.length) & (self.length <= 16)
+        block::in_range(self.length, 1, 16)
     }
 
     // The number of a word of eight letters at most, 0 of a longer one.

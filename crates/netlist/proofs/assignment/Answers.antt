@@ -33,14 +33,14 @@ pub returns-in_err-pins : goal.returns-in_err-pins
 returns-in_err-pins c letters e l =
     let piece = c.read_piece-piece in
     c.from_residual.ensures
-    ∙ assigned_wrong letters _ _ _ (piece_parts _ _ piece.result piece.ensures Open refl c.in-Open.is)
+    ∙ assigned_wrong letters _ _ _ (piece_parts _ piece.result piece.ensures Open refl c.in-Open.is)
     (sym c.in_err-pins.was ∙ c.read_names.ensures)
 
 pub returns-in_err-kind : goal.returns-in_err-kind
 returns-in_err-kind c letters e l =
     let piece = c.read_piece-piece in
     c.from_residual-in_err-kind.ensures
-    ∙ assigned_unknown letters _ _ _ (piece_parts _ _ piece.result piece.ensures Open refl c.in-Open.is)
+    ∙ assigned_unknown letters _ _ _ (piece_parts _ piece.result piece.ensures Open refl c.in-Open.is)
     (sym c.in_err-kind.was ∙ of_piece _ piece.ensures c.kind.ensures)
 
 pub returns : goal.returns
@@ -50,6 +50,6 @@ returns c letters e l =
     c.then_some.ensures
     ∙ rw e
     (assigned_right letters piece.ensures.letters _ _
-    (piece_parts _ _ piece.result piece.ensures Open refl c.in-Open.is)
+    (piece_parts _ piece.result piece.ensures Open refl c.in-Open.is)
     (sym c.in_ok-pins.was ∙ c.read_names.ensures) (sym c.in_ok-kind.was ∙ of_piece _ piece.ensures c.kind.ensures)
-    (c.is_name.ensures letters e l) c.pin_count_right.ensures)
+    (c.is_name.ensures letters e l) (rw c.len.ensures.value at c.pin_count_right.ensures))

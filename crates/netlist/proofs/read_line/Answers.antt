@@ -46,14 +46,14 @@ pub returns-in-Open : goal.returns-in-Open
 unfolding line_form form_of
 returns-in-Open c =
     let piece = c.read_piece-first in
-    let parts = piece_parts _ 0 piece.result piece.ensures Open refl c.in-Open.is in
+    let parts = piece_parts _ piece.result piece.ensures Open refl c.in-Open.is in
     of_piece _ piece.ensures c.declaration.ensures ∙ sym (ap (λ parts. line_kept (form_of parts)) parts)
 
 pub returns-in-Equals : goal.returns-in-Equals
 unfolding line_form form_of
 returns-in-Equals c =
     let piece = c.read_piece-first in
-    let parts = piece_parts _ 0 piece.result piece.ensures Equals refl c.in-Equals.is in
+    let parts = piece_parts _ piece.result piece.ensures Equals refl c.in-Equals.is in
     of_piece _ piece.ensures c.assignment.ensures ∙ sym (ap (λ parts. line_kept (form_of parts)) parts)
 
 pub returns-in-Comma : goal.returns-in-Comma

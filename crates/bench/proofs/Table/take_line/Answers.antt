@@ -5,7 +5,7 @@ use mathlib.Core.Path.{sym, ap, ◌∙◌}
 use Rattle.std.specs.Prelude.{Err}
 use Rattle.block.proofs.Verdicts.{handed_on}
 use Rattle.netlist.specs.Forms.{line_form}
-use Rattle.netlist.proofs.RightGates.{kind_high, gate_kind, gate_few}
+use Rattle.netlist.proofs.RightGates.{kind_high, gate_kind}
 use Rattle.bench.specs.Held.{LineRead}
 use Rattle.bench.proofs.Told.{missing, there}
 use Rattle.bench.proofs.KeptLines.{line_wrong, line_right, input_told, gate_told}
@@ -17,10 +17,10 @@ take_gate-requires c =
     let form = line_form c.args.bytes.now in
     let right = line_right form c.read_line.ensures (there _ _ c.ok_or.ensures.value c.in_ok-ok_or.was) in
     let given = c.in-Gate.gate in
-    let fits = gate_told (λ form. (2 ≤ given.kind) × (given.kind ≤ 9) × (given.pins.used ≤ 4)) form right.0 (sym c.in-Gate.is ∙ right.1)
+    let fits = gate_told (λ form. (2 ≤ given.kind) × (given.kind ≤ 9)) form right.0 (sym c.in-Gate.is ∙ right.1)
     (λ name word pins fits same.
-    rw same (gate_kind name word pins fits, kind_high word, gate_few name word pins fits)) in
-    (c.requires.0, c.requires.1, fits.0, fits.1, fits.2)
+    rw same (gate_kind name word pins fits, kind_high word)) in
+    (c.requires, fits.0, fits.1)
 
 pub returns-in_err-ok_or : goal.returns-in_err-ok_or
 returns-in_err-ok_or c names held =

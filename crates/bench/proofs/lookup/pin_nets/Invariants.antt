@@ -4,4 +4,4 @@ use Rattle.bench.proofs.Pins.{PinsPassed}
 use Rattle.bench.proofs.lookup.pin_nets.Given as goal
 
 abbrev pub invariant-loop-p : goal.invariant-loop-p
-invariant-loop-p l = PinsPassed l.names l.pins l.nets l.p
+invariant-loop-p l = PinsPassed l.names l.pin-items l.nets l.p

@@ -1,10 +1,13 @@
 -- `netlist::brackets::read_names` meets its contract.
 -- Assumes nothing.
-use mathlib.Core.Bool.{false}
+use Prim.Native.Nat.{ℕ, ◌≤◌, ◌<◌}
+use mathlib.Core.Bool.{true, false}
 use mathlib.Core.List.{List, ◌∷◌}
 use mathlib.Core.Logic.{◌⊎◌, inl, inr}
 use mathlib.Core.Path.{◌≡◌, refl, sym, ◌∙◌}
 use native.Mathlib.Omega.{arith}
+use lib.Dec.{eqb}
+use borrow.Author.Tests.{eqb-true, eqb-false}
 use Rattle.netlist.specs.declared.Mark.{Mark}
 use Rattle.netlist.specs.declared.Mark.TheVariants.{Equals, Open, Other, End}
 use Rattle.netlist.specs.Names.{Letters}
@@ -23,34 +26,42 @@ stops mark (inr (inl e)) word rest = rw e refl
 stops mark (inr (inr (inl e))) word rest = rw e refl
 stops mark (inr (inr (inr e))) word rest = rw e refl
 
-pub loop-passed-init : goal.loop-passed-init
-loop-passed-init c = names_none _ _ _ c.default-names.ensures c.requires
+-- What the test for room tells.
+
+room : (n : ℕ) → n ≤ 4 → eqb n 4 ≡ false → n < 4
+room n h e = let other = eqb-false n 4 e in omega arith
+
+full : (n : ℕ) → eqb n 4 ≡ true → 4 ≤ n
+full n e = let is = eqb-true n 4 e in omega arith
+
+pub loop-rest-init : goal.loop-rest-init
+loop-rest-init c = names_none _ _ c.new-names.ensures
 
 pub returns-then-not-is_name : goal.returns-then-not-is_name
 returns-then-not-is_name c =
     let read = c.read_piece-piece in
-    names_wrong _ _ _ _ _ c.loop-passed.invariant read.result read.ensures
+    names_wrong _ _ _ c.loop-rest.invariant read.result read.ensures
     (sym (of_piece _ read.ensures c.is_name.ensures) ∙ c.if-not-is_name.true)
 
-pub loop-passed-preserved : goal.loop-passed-preserved
-loop-passed-preserved c =
+pub loop-rest-preserved : goal.loop-rest-preserved
+loop-rest-preserved c =
     let read = c.read_piece-piece in
-    names_more _ _ _ _ _ c.loop-passed.invariant read.result read.ensures (omega arith)
-    (sym (of_piece _ read.ensures c.is_name.ensures) ∙ c.if-not-is_name.false) c.in-Comma.is
+    names_more _ _ _ c.loop-rest.invariant read.result read.ensures (room _ c.is_full.ensures.fits (sym c.is_full.ensures.value ∙ c.loop-rest-test.true))
+    (sym (of_piece _ read.ensures c.is_name.ensures) ∙ c.if-not-is_name.false) c.push.ensures.items c.in-Comma.is
 
 pub returns-in-Close : goal.returns-in-Close
 returns-in-Close c =
     let read = c.read_piece-piece in
     c.then_some.ensures
-    ∙ names_closed _ _ _ _ _ c.loop-passed.invariant read.result read.ensures (omega arith)
-    (sym (of_piece _ read.ensures c.is_name.ensures) ∙ c.if-not-is_name.false)
+    ∙ names_closed _ _ _ c.loop-rest.invariant read.result read.ensures (room _ c.is_full.ensures.fits (sym c.is_full.ensures.value ∙ c.loop-rest-test.true))
+    (sym (of_piece _ read.ensures c.is_name.ensures) ∙ c.if-not-is_name.false) c.push.ensures.items
     c.in-Close.is c.ended.result c.ended.ensures
 
 pub returns-in-Equals : goal.returns-in-Equals
 returns-in-Equals c =
     let read = c.read_piece-piece in
-    names_stop _ _ _ _ _ c.loop-passed.invariant read.result read.ensures
+    names_stop _ _ _ c.loop-rest.invariant read.result read.ensures
     (stops read.result.mark c.in-Equals.is _ _)
 
 pub returns : goal.returns
-returns c = names_many _ _ _ _ _ c.loop-passed.invariant (omega arith)
+returns c = names_many _ _ _ c.loop-rest.invariant (full _ (sym c.is_full.ensures.value ∙ c.loop-rest-test.false))

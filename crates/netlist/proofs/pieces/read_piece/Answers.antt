@@ -1,42 +1,39 @@
 -- `netlist::pieces::read_piece` meets its contract.
 -- Assumes nothing.
-use mathlib.Core.Path.{◌≡◌, sym, ◌∙◌}
+use mathlib.Core.Path.{refl, sym, ◌∙◌}
+use Prim.Native.Nat.{◌+◌}
 use native.Mathlib.Omega.{arith}
-use lib.ListN.{length}
+use Rattle.std.proofs.lemmas.List.{take_rest}
 use Rattle.netlist.proofs.Parts.{letter_tested, piece_begun, piece_ended, piece_commented, piece_letter, piece_blank, piece_marked}
 use Rattle.netlist.proofs.pieces.read_piece.Goals as goal
-use Rattle.netlist.proofs.pieces.read_piece.Goals.{then-is_ascii_alphanumeric, else-is_ascii_alphanumeric+else-not-is_blank}
+use Rattle.netlist.proofs.pieces.read_piece.Goals.{then-is_ascii_alphanumeric, else-is_ascii_alphanumeric+else-not-is_blank, else-loop-at-test, then-loop-at-test+then-byte-eq35}
 
 pub loop-at-init : goal.loop-at-init
-loop-at-init c = piece_begun _ _ _ c.default-word.ensures c.requires
-
-pub returns-then-byte-eq35 : goal.returns-then-byte-eq35
-returns-then-byte-eq35 c =
-    let loop = c.loop-at in
-    piece_commented _ _ _ loop.at loop.invariant (omega arith) c.if-byte-eq35.true
+loop-at-init c = piece_begun _ _ c.default-word.ensures
 
 pub returns-then-not-is_blank : goal.returns-then-not-is_blank
 returns-then-not-is_blank c =
     let loop = c.loop-at in
-    piece_marked _ _ _ loop.at loop.invariant (omega arith)
-    c.if-byte-eq35.false c.from.result
+    piece_marked _ loop.word loop.at loop.invariant (omega arith)
+    c.if-byte-eq35.false _ refl
     (sym c.is_blank.ensures ∙ c.if-not-is_blank.true)
-    (sym (c.is_ascii_alphanumeric.ensures.value ∙ letter_tested _) ∙ c.if-is_ascii_alphanumeric.false) c.from.ensures
+    (sym (c.is_ascii_alphanumeric.ensures.value ∙ letter_tested _) ∙ c.if-is_ascii_alphanumeric.false) c.from.ensures (take_rest _ (loop.at + 1))
 
 pub loop-at-preserved : goal.loop-at-preserved
 loop-at-preserved c =
     let loop = c.loop-at in
     elim c.if-is_ascii_alphanumeric.branch [
-      | then-is_ascii_alphanumeric w ↦ rw w.word-is (piece_letter _ _ _ loop.at loop.invariant (omega arith)
+      | then-is_ascii_alphanumeric w ↦ rw w.word-is (piece_letter _ _ loop.at loop.invariant (omega arith)
           c.if-byte-eq35.false w.with-word.result
           (sym (c.is_ascii_alphanumeric.ensures.value ∙ letter_tested _) ∙ w.if-is_ascii_alphanumeric.true) w.with-word.ensures)
-      | else-is_ascii_alphanumeric+else-not-is_blank w ↦ rw w.word-is (piece_blank _ _ _ loop.at loop.invariant (omega arith)
+      | else-is_ascii_alphanumeric+else-not-is_blank w ↦ rw w.word-is (piece_blank _ _ loop.at loop.invariant (omega arith)
           c.if-byte-eq35.false (sym w.is_blank.ensures ∙ w.if-not-is_blank.false))
     ]
 
 pub returns : goal.returns
 returns c =
     let loop = c.loop-at in
-    let end : loop.at ≡ length c.args.line.now = omega arith in
-    let read = piece_ended c.args.line.now c.args.from loop.word loop.at loop.invariant (omega arith) in
-    rw end at read
+    elim c.loop-at-test.branch [
+      | else-loop-at-test w ↦ piece_ended _ loop.word loop.at loop.invariant (omega arith) _ refl refl
+      | then-loop-at-test+then-byte-eq35 w ↦ piece_commented _ loop.word loop.at loop.invariant (omega arith) w.if-byte-eq35.true _ refl refl
+    ]
