@@ -83,7 +83,8 @@ pub fn take_text(text: &[u8], list: &[u8; 64], table: &mut Table) -> Result<(), 
     ensures { TextTaken text.now list.now table.new result }
 {
     let progress = begin(text, list, table)?;
-    if progress.rest.is_empty() {
+    let all_taken = progress.rest.is_empty();
+    if all_taken {
         return Ok(());
     }
     let more = overflow::judge_later(progress, table.gates, table.held())?;
