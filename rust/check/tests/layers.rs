@@ -121,7 +121,12 @@ const ABBREVIATIONS: [(&[&str], &str); 4] = [
 ];
 
 /// All that the search unfolds, in its proofs and anywhere, of crates other than its own, `cases` and `laws`.
-const UNFOLDED: [Named; 8] = [
+const UNFOLDED: [Named; 9] = [
+    Named {
+        module: "std.specs.List.Sorted",
+        names: &["IsStrictlySortedBy"],
+        why: "The library's word for a list that rises, as the library's sort leaves it.",
+    },
     Named {
         module: "simulator.specs.Simulate",
         names: &["size_checks", "simulate_verdict"],
@@ -139,8 +144,8 @@ const UNFOLDED: [Named; 8] = [
     },
     Named {
         module: "operation.specs.SplitOrder",
-        names: &["list_bytes"],
-        why: "The bytes that a maker returns its list in.",
+        names: &["list_bytes", "times_named"],
+        why: "The bytes that a maker returns its list in, and how often a list names a net.",
     },
     Named {
         module: "block.specs.Block",
@@ -244,10 +249,30 @@ fn calls(line: &str, crates: &[&str]) -> Vec<(String, String)> {
     named
 }
 
-/// The names that a text unfolds, on `unfolding` lines and by `unfold .. in`.
+/// The names that an attribute of a function unfolds, by whole paths; those of its own crate may be open.
+fn unfolded_by_attribute(line: &str) -> Vec<String> {
+    let Some((_, paths)) = line.split_once("unfolding(") else {
+        return Vec::new();
+    };
+    let (paths, _) = paths
+        .split_once(')')
+        .expect("brackets closed on their line");
+    paths
+        .split(',')
+        .map(str::trim)
+        .filter(|path| !path.starts_with("crate::"))
+        .map(|path| format!("Rattle.{}", path.replace("::", ".")))
+        .collect()
+}
+
+/// The names that a text unfolds, on `unfolding` lines, by `unfold .. in`, and by attributes.
 fn unfolded(text: &str) -> BTreeSet<String> {
     let mut names = BTreeSet::new();
     for line in code(text).lines() {
+        if line.trim_start().starts_with("#[") {
+            names.extend(unfolded_by_attribute(line));
+            continue;
+        }
         let mut words =
             line.split(|character: char| character.is_whitespace() || "()".contains(character));
         while let Some(word) = words.next() {
