@@ -5,68 +5,89 @@ use mathlib.Core.Bool.{true, false}
 use mathlib.Core.List.{List, ◌∷◌}
 use mathlib.Core.Logic.{⊎_elim}
 use mathlib.Core.Path.{◌≡◌, refl, ap, sym, ◌∙◌}
-use native.Mathlib.Nat.{eq-or-lt_of_le}
+use native.Mathlib.Nat.{le_refl, eq-or-lt_of_le}
 use native.Mathlib.Omega.{arith}
+use lib.ListN.{length}
+use borrow.Author.Tests.{lt-ltb, le-ltb}
 use Rattle.bits.specs.Bits.{row_bit}
 use Rattle.runs.specs.Rows.{runs_in, NextAt}
 use Rattle.runs.specs.Runs.{run}
-use Rattle.runs.proofs.Walk as walk
-use Rattle.runs.proofs.Walk.{runs_after, all_runs, none_left, passed, run_long}
-use Rattle.fill.specs.Filling.{NextRun, NoRun, shortest_gap}
+use Rattle.runs.proofs.Walk.{runs_after, all_runs, none_left, passed, run_here, run_long, next_run}
+use Rattle.fill.specs.Filling.{shortest_gap}
 use Rattle.fill.specs.Gaps.{Gap, gap, gaps_after, gaps, shorter, shortest}
-use Rattle.fill.specs.declared.Run.{Run}
 
--- The shortest gap so far, where `end` is the tick after the latest run.
-pub record Walked (row : List ℕ) (g : Gap) (end : ℕ) : Type 0 where
-  pub within : end ≤ 256
-  pub rest : shortest g (gaps_after end (runs_after row end)) ≡ shortest_gap (runs_in row)
+-- The shortest gap so far, where `end` is the tick after the latest run and `next` the first tick of the run that follows.
+pub record Walked (row : List ℕ) (g : Gap) (end next : ℕ) : Type 0 where
+  pub found : NextAt true row end next
+  pub rest : shortest g (gaps_after end (runs_after row next)) ≡ shortest_gap (runs_in row)
+
+-- The first of several gaps is the shortest so far.
+first_shortest : (start size : ℕ) (more : List Gap) → size < 256
+    → shortest (gap start size) (gap start size ∷ more) ≡ shortest (gap 0 256) (gap start size ∷ more)
+unfolding shortest shorter
+first_shortest start size more low = rw (lt-ltb size 256 low, le-ltb size size (le_refl size)) refl
 
 module _ (row : List ℕ) where
-  -- The gaps after a run of a row, from its first tick on.
-  module _ (first end : ℕ) (early : first < 256) (held : row_bit row first ≡ true) (ended : NextAt false row first end) where
-    back : suc (end - 1) ≡ end
-    back = omega (arith, run_long row first end early held ended)
+  -- A run, and the runs from the first tick of the next one on.
+  one_run : (first end next : ℕ) → first < 256 → row_bit row first ≡ true → NextAt false row first end → NextAt true row end next
+      → runs_after row first ≡ run first (end - 1) ∷ runs_after row next
+  one_run first end next early held ended found =
+      next_run row first end early held ended ∙ ap (λ rs. run first (end - 1) ∷ rs) (passed row end next found)
 
-    one_run : runs_after row first ≡ run first (end - 1) ∷ runs_after row end
-    one_run = walk.next_run row first end early held ended
-
-  -- No gap is found yet: the runs that are left are those after the first one.
-  module _ (first end : ℕ) (begun : NextAt true row 0 first) (ended : NextAt false row first end) where
+  -- The first gap of a row that has several runs is the shortest so far: the runs that are left begin where it ends.
+  module _ (first end next : ℕ) (begun : NextAt true row 0 first) (ended : NextAt false row first end) (found : NextAt true row end next)
+      (two : 2 ≤ length (runs_in row)) where
     all : runs_in row ≡ runs_after row first
     all = sym (all_runs row) ∙ passed row 0 first begun
 
-    gaps_are : gaps (runs_in row) ≡ gaps_after end (runs_after row end)
-    unfolding gaps gaps_after
+    first_early : first < 256
+    first_early = ⊎_elim (λ (e : first ≡ 256). absurd (few e)) (λ l. l) (eq-or-lt_of_le begun.high)
+      where
+        few : first ≡ 256 → ⊥
+        few e = let none = ap length (all ∙ ap (runs_after row) e ∙ none_left row) in omega arith
+
+    first_run : runs_in row ≡ run first (end - 1) ∷ runs_after row next
+    first_run = all ∙ one_run first end next first_early (begun.found first_early) ended found
+
+    next_early : next < 256
+    next_early = ⊎_elim (λ (e : next ≡ 256). absurd (few e)) (λ l. l) (eq-or-lt_of_le found.high)
+      where
+        few : next ≡ 256 → ⊥
+        few e = let one = ap length (first_run ∙ ap (λ t. run first (end - 1) ∷ runs_after row t) e ∙ ap (λ rs. run first (end - 1) ∷ rs) (none_left row)) in omega arith
+
+    gaps_are : gaps (runs_in row) ≡ gaps_after end (runs_after row next)
+    unfolding gaps
     gaps_are =
-        ⊎_elim
-        (λ (none : first ≡ 256).
-        let last : end ≡ 256 = (let low = ended.low in let high = ended.high in omega arith) in
-        rw (all, none, last, none_left row) refl)
-        (λ early. let held = begun.found early in rw (all, one_run first end early held ended, back first end early held ended) refl)
-        (eq-or-lt_of_le begun.high)
+        let back : suc (end - 1) ≡ end = omega (arith, run_long row first end first_early (begun.found first_early) ended) in
+        rw (first_run, back) refl
 
-    pub walk_first : Walked row (gap 0 256) end
-    unfolding shortest_gap
-    walk_first = record { within = ended.high; rest = ap (shortest (gap 0 256)) (sym gaps_are) }
+    pub walk_first : Walked row (gap end (next - end)) end next
+    unfolding shortest_gap gaps_after
+    walk_first =
+        let here = run_here row next next_early (found.found next_early) in
+        record { found = found; rest = rw (gaps_are, here.2) (first_shortest end (next - end) _ (omega (arith, next_early))) }
 
-  module _ (g : Gap) (end : ℕ) (so_far : Walked row g end) where
+  module _ (g : Gap) (end next : ℕ) (so_far : Walked row g end next) where
     -- One run more.
-    module _ (one : Run) (next : NextRun row end one) where
-      held : row_bit row one.first ≡ true
-      held = next.begun.found next.early
+    module _ (early : next < 256) (end' next' : ℕ) (ended : NextAt false row next end') (found : NextAt true row end' next') where
+      pub walk_on : next < next'
+      walk_on = omega (arith, run_long row next end' early (so_far.found.found early) ended, found.low)
 
-      pub walk_more : (g' : Gap) → g' ≡ shorter g (gap end (one.first - end)) → Walked row g' one.end
+      pub walk_more : (g' : Gap) → g' ≡ shorter g (gap end (next - end)) → Walked row g' end' next'
       unfolding shortest gaps_after
-      walk_more g' shorter_is = record {
-        within = next.ended.high;
-        rest = rw shorter_is
-            (ap (λ e. shortest (shorter g (gap end (one.first - end))) (gaps_after e (runs_after row one.end)))
-            (sym (back one.first one.end next.early held next.ended))
-            ∙ ap (λ rs. shortest g (gaps_after end rs))
-            (sym (passed row end one.first next.begun ∙ one_run one.first one.end next.early held next.ended))
-            ∙ so_far.rest);
-      }
+      walk_more g' shorter_is =
+          let held = so_far.found.found early in
+          let back : suc (end' - 1) ≡ end' = omega (arith, run_long row next end' early held ended) in
+          record {
+            found = found;
+            rest = rw shorter_is
+                (ap (λ e. shortest (shorter g (gap end (next - end))) (gaps_after e (runs_after row next'))) (sym back)
+                ∙ ap (λ rs. shortest g (gaps_after end rs)) (sym (one_run next end' next' early held ended found))
+                ∙ so_far.rest);
+          }
 
-    pub walk_done : NoRun row end → g ≡ shortest_gap (runs_in row)
+    pub walk_done : 256 ≤ next → g ≡ shortest_gap (runs_in row)
     unfolding shortest gaps_after
-    walk_done none = sym (ap (λ rs. shortest g (gaps_after end rs)) (passed row end 256 none ∙ none_left row)) ∙ so_far.rest
+    walk_done late =
+        let last : next ≡ 256 = omega (arith, so_far.found.high) in
+        sym (ap (λ rs. shortest g (gaps_after end rs)) (ap (runs_after row) last ∙ none_left row)) ∙ so_far.rest

@@ -1,33 +1,23 @@
 -- What the code does to the rows of a net (for document 01, "Envelope"), one excitation after another and one gap after another.
-use Rattle.std.specs.Prelude.{ℕ, ◌+◌, ◌*◌, ◌≤◌, ◌<◌, Bool, true, false, List, ◌⊎◌, ◌≡◌, length, get_or}
+use Rattle.std.specs.Prelude.{ℕ, ◌+◌, ◌*◌, ◌≤◌, ◌<◌, Bool, false, List, ◌⊎◌, ◌≡◌, length, get_or}
 use Rattle.laws.specs.Settled.{SettledAfter}
 use Rattle.laws.specs.Turn.{list_below}
 use Rattle.excitation.specs.Excitation.{same}
 use Rattle.excitation.specs.UncertaintySet.{UncertaintySet, member}
 use Rattle.excitation.specs.declared.Excitation.{Excitation}
 use Rattle.rows.specs.Rows.{set_in}
-use Rattle.runs.specs.Rows.{ticks_in, runs_in, NextAt}
-use Rattle.runs.specs.Runs as Runs
+use Rattle.runs.specs.Rows.{ticks_in, runs_in}
+use Rattle.runs.specs.Runs.{Run}
 use Rattle.fill.specs.Fill.{fill_ticks, filled}
 use Rattle.fill.specs.Gaps.{Gap, gap, gaps, shortest, close_shortest}
 use Rattle.fill.specs.declared.Between.{Between}
-use Rattle.fill.specs.declared.Run.{Run}
 
 -- The gap that the code has found.
 abbrev pub gap_of : Between → Gap
 gap_of b = gap b.start b.size
 
--- The next run of a row, not before tick `from`; and that there is none.
-pub record NextRun (row : List ℕ) (from : ℕ) (run : Run) : Type 0 where
-  pub begun : NextAt true row from run.first
-  pub early : run.first < 256
-  pub ended : NextAt false row run.first run.end
-
-abbrev pub NoRun : List ℕ → ℕ → Type 0
-NoRun row from = NextAt true row from 256
-
 -- The shortest gap between runs of 256 ticks. A gap of 256 ticks, which is longer than any, stands for none.
-unfoldable pub shortest_gap : List Runs.Run → Gap
+unfoldable pub shortest_gap : List Run → Gap
 shortest_gap rs = shortest (gap 0 256) (gaps rs)
 
 -- A row after its shortest gap was filled.

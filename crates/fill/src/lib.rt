@@ -1,14 +1,14 @@
 // Fills the rows of a gate to the hop limit.
 #![tactic(auto)]
 
-ghost use Rattle.std.specs.Prelude.{◌+◌, ◌-◌, ◌≤◌, ◌<◌, ◌≡◌, length, IfSome, IfNone};
+ghost use Rattle.std.specs.Prelude.{◌+◌, ◌-◌, ◌≤◌, ◌<◌, ◌≡◌, length};
 ghost use Rattle.laws.specs.Settled.{SettledAfter};
 ghost use Rattle.excitation.specs.declared.Excitation.{Excitation};
 ghost use Rattle.rows.specs.Rows.{HasRow, set_in};
 ghost use Rattle.runs.specs.Rows.{runs_in};
 ghost use Rattle.runs.specs.Runs.{runs};
 ghost use Rattle.fill.specs.Gaps.{gap, shorter};
-ghost use Rattle.fill.specs.Filling.{gap_of, NextRun, NoRun, shortest_gap, held_in, GapFilled, RowFilled, OneFilled, Filled};
+ghost use Rattle.fill.specs.Filling.{gap_of, shortest_gap, held_in, GapFilled, RowFilled, OneFilled, Filled};
 
 use excitation::{Excitation, H, HL, L, LH};
 use parts::Part;
@@ -18,27 +18,6 @@ use parts::Part;
 struct Between {
     start: usize,
     size: usize,
-}
-
-// A run of a row: its first tick and the tick after its last.
-#[derive(Clone, Copy)]
-struct Run {
-    first: usize,
-    end: usize,
-}
-
-// The next run of a row, not before tick `from`.
-fn next_run(row: &[u64; 4], from: usize) -> Option<Run>
-    requires { from ≤ 256 }
-    ensures next { IfSome result (NextRun row.now from) }
-    ensures none { IfNone result (NoRun row.now from) }
-{
-    let first = runs::next_at(row, from, true);
-    if first == 256 {
-        return None;
-    }
-    let end = runs::next_at(row, first, false);
-    Some(Run { first, end })
 }
 
 // The shorter of a gap so far and the gap from tick `end` to before tick `next`, the earlier on a tie.
@@ -53,19 +32,24 @@ fn shorter(shortest: Between, end: usize, next: usize) -> Between
     shortest
 }
 
-// The shortest gap between the runs of a row, the earliest on a tie: the runs are walked from one to the next.
+// The shortest gap between the runs of a row that has several, the earliest on a tie: the runs are walked from one to the next.
 fn shortest_gap(row: &[u64; 4]) -> Between
+    requires { 2 ≤ length (runs_in row.now) }
     ensures { gap_of result ≡ shortest_gap (runs_in row.now) }
 {
     let first = runs::next_at(row, 0, true);
     let mut end = runs::next_at(row, first, false);
+    let mut next = runs::next_at(row, end, true);
     let mut shortest = Between {
-        start: 0,
-        size: 256,
+        start: end,
+        size: next - end,
     };
-    while let Some(run) = next_run(row, end) {
-        shortest = shorter(shortest, end, run.first);
-        end = run.end;
+    // Form kept: it was tried and misses a bar of speed: with a `while let` over the runs, as Options, `fill_excitation` took 3 % more
+    // instructions.
+    while next < 256 {
+        shortest = shorter(shortest, end, next);
+        end = runs::next_at(row, next, false);
+        next = runs::next_at(row, end, true);
     }
     shortest
 }

@@ -12,7 +12,7 @@ use Rattle.laws.specs.Turn.{list_below}
 use Rattle.bits.specs.Bits.{row_bit}
 use Rattle.runs.specs.Runs.{Run, run, extend, runs_from, runs}
 use Rattle.runs.specs.Rows.{NextAt}
-use Rattle.runs.proofs.Runs.{Apart, extend_alone, extend_grows, runs_apart}
+use Rattle.runs.proofs.Runs.{Apart, extend_alone, extend_grows, extend_new, grows_or_new, runs_apart}
 use Rattle.runs.proofs.Begins.{ticks_from, ticks_list}
 
 module _ (held : ℕ → Bool) where
@@ -88,6 +88,22 @@ passed row t s w =
 pub none_left : (row : List ℕ) → runs_after row 256 ≡ []
 unfolding runs_after runs_from ticks_from
 none_left row = refl
+
+-- From a set tick on there is a run that begins there.
+
+extend_begins : (t : ℕ) (rs : List Run) → (last : ℕ) × (rest : List Run) × (extend t rs ≡ run t last ∷ rest)
+unfolding extend
+extend_begins t [] = (t, [], refl)
+extend_begins t (run first last ∷ rest) =
+    grows_or_new t first (λ e. (last, rest, extend_grows t first last rest e)) (λ n. (t, run first last ∷ rest, extend_new t first last rest n))
+
+pub run_here : (row : List ℕ) (s : ℕ) → s < 256 → row_bit row s ≡ true
+    → (last : ℕ) × (rest : List Run) × (runs_after row s ≡ run s last ∷ rest)
+unfolding runs_after
+run_here row s h set =
+    let n : 256 - s ≡ suc (255 - s) = omega arith in
+    let begins = extend_begins s (runs_from (suc s) (ticks_from (row_bit row) (suc s) (255 - s))) in
+    (begins.0, begins.1, ap (λ n. runs_from s (ticks_from (row_bit row) s n)) n ∙ set_first (row_bit row) s (255 - s) set ∙ begins.2)
 
 -- The next clear tick is after a set one.
 pub run_long : (row : List ℕ) (s e : ℕ) → s < 256 → row_bit row s ≡ true → NextAt false row s e → s < e

@@ -6,8 +6,8 @@ use Rattle.fill.specs.Filling.{gap_of}
 use Rattle.fill.proofs.Walks.{Walked}
 use Rattle.fill.proofs.shortest_gap.Given as goal
 
-abbrev pub invariant-loop-run : goal.invariant-loop-run
-invariant-loop-run l = Walked l.row (gap_of l.shortest) l.end
+abbrev pub invariant-loop-next : goal.invariant-loop-next
+invariant-loop-next l = Walked l.row (gap_of l.shortest) l.end l.next
 
-abbrev pub decreases-loop-run : goal.decreases-loop-run
-decreases-loop-run l = 256 - l.end
+abbrev pub decreases-loop-next : goal.decreases-loop-next
+decreases-loop-next l = 256 - l.next
