@@ -26,8 +26,8 @@ use sheet::Word;
 const DECIDED: u64 = u64::MAX;
 
 // How many inputs are undecided.
-fn undecided_inputs(codes: &[u8; 64], inputs: usize) -> usize
-    requires { inputs ≤ 64 }
+fn undecided_inputs(codes: &[u8], inputs: usize) -> usize
+    requires { inputs ≤ length codes.now }
     ensures { result ≡ count_by (λ code. undecided (decode code)) (take inputs codes.now) }
 {
     let codes = &codes[..inputs];

@@ -1,5 +1,5 @@
 // Fan-out cones counted: which inputs reach each net, as bits of a word, and how many gates each input reaches.
-ghost use Rattle.std.specs.Prelude.{◌≡◌, ℕ, ◌^◌, ◌≤◌, ◌<◌, get_or};
+ghost use Rattle.std.specs.Prelude.{◌≡◌, ℕ, ◌^◌, ◌≤◌, ◌<◌, replicate};
 ghost use Rattle.block.specs.Accepted.{AcceptedFile};
 ghost use Rattle.block.specs.Block.{cone_size};
 ghost use Rattle.block.specs.View.{pin_of};
@@ -56,10 +56,10 @@ fn reached_gates(words: &[u64; 1024], nets: usize, inputs: usize, source: Net) -
     count as u16
 }
 
-// How many gates stand in the fan-out cone of each input.
+// How many gates stand in the fan-out cone of each input, and 0 past the inputs.
 pub fn cones(file: &[u8], nets: usize, inputs: usize) -> [u16; 64]
     requires { AcceptedFile file.now nets inputs }
-    ensures { (net : ℕ) → net < inputs → get_or result net 0 ≡ cone_size file.now net }
+    ensures { Rewritten (cone_size file.now) 0 inputs (replicate 64 0) result }
 {
     let mut words = [0u64; 1024];
     let mut cones = [0u16; 64];

@@ -6,13 +6,14 @@ use Rattle.split_order.specs.Trying.{TriedBelow}
 use native.Mathlib.Omega.{arith}
 use Rattle.evaluation.proofs.Given.{evaluable_kept}
 use Rattle.cases.proofs.Children.{in_order_byte}
+use Rattle.bounds.specs.Bounds.{pattern_drop, case_drop}
 use Rattle.split_order.proofs.Trying.{tried_none, tried_key}
 use Rattle.split_order.proofs.by_bounds.try_input.Goals as goal
 
 pub loop-e-init : goal.loop-e-init
 loop-e-init c = (
   subst (TriedBelow c.args.setting c.args.frame.now c.args.input.0 0) (sym c.alone-tried.ensures)
-      (tried_none c.args.setting _ c.args.input.0),
+      (tried_none (pattern_drop c.args.setting) (case_drop c.args.setting) c.args.setting.inputs _ c.args.input.0),
   refl,
   refl,
 )
@@ -35,4 +36,6 @@ loop-e-preserved c =
 
 pub returns : goal.returns
 returns c =
-    tried_key c.args.setting _ c.args.input.0 (omega arith) c.is_undecided.ensures (ap not c.if-not-is_undecided.false) c.loop-e.invariant.0
+    let setting = c.args.setting in
+    tried_key (pattern_drop setting) (case_drop setting) setting.inputs _ c.args.input.0 (omega arith)
+    c.is_undecided.ensures (ap not c.if-not-is_undecided.false) c.loop-e.invariant.0
