@@ -1,6 +1,6 @@
 -- The sets of a case's probe, as codes: sets of one member. Those of a decided case are its own.
 -- Assumes nothing.
-use Prim.Native.Nat.{ℕ}
+use Prim.Native.Nat.{ℕ, ◌<◌}
 use mathlib.Core.Bool.{true}
 use mathlib.Core.List.{List, map}
 use mathlib.Core.Path.{◌≡◌, ap, sym, ◌∙◌}
@@ -10,10 +10,10 @@ use borrow.Author.Tests.{not-true}
 use Rattle.laws.specs.Turn.{list_below}
 use Rattle.laws.proofs.Below.{all_at}
 use Rattle.laws.proofs.Turn.{list_map, list_same}
-use Rattle.excitation.specs.UncertaintySet.{decode, empty, single, sets_in}
+use Rattle.excitation.specs.UncertaintySet.{code, decode, empty, single, sets_in}
 use Rattle.excitation.proofs.Codes.{decode_code, some_member}
 use Rattle.cases.specs.Case.{decided, first_allowed, probe}
-use Rattle.cases.specs.Records.{SetCodes, ProbeCodes}
+use Rattle.cases.specs.Records.{SetCodes}
 use Rattle.cases.proofs.Cases.{decided_single}
 use Rattle.cases.proofs.Codes.{decided_at, decided_codes}
 
@@ -24,13 +24,14 @@ singles_are inputs codes =
     ap (map single) (list_map first_allowed inputs (λ net. decode (get_or codes net 0)))
     ∙ list_map single inputs (λ net. first_allowed (decode (get_or codes net 0)))
 
--- The codes that are written for a probe.
-pub probe_sets : {inputs : ℕ} {codes singles : List ℕ} → ProbeCodes inputs codes singles
+-- Bytes of which those of the inputs code the single sets of a probe.
+pub probe_sets : (inputs : ℕ) (codes singles : List ℕ)
+    → ((net : ℕ) → net < inputs → get_or singles net 0 ≡ code (single (first_allowed (decode (get_or codes net 0)))))
     → sets_in inputs singles ≡ map single (probe (sets_in inputs codes))
 unfolding sets_in
-probe_sets {inputs} {codes} {singles} coded =
+probe_sets inputs codes singles coded =
     list_same inputs (λ net. decode (get_or singles net 0)) (λ net. single (first_allowed (decode (get_or codes net 0)))) empty
-    (λ net h. ap decode (coded.at net h) ∙ decode_code _)
+    (λ net h. ap decode (coded net h) ∙ decode_code _)
     ∙ sym (singles_are inputs codes)
 
 -- The codes of a decided case.

@@ -1,5 +1,6 @@
 -- What the code reads from and writes to the case store (for document 01, "Search").
-use Rattle.std.specs.Prelude.{ℕ, ◌+◌, ◌*◌, ◌≤◌, ◌<◌, List, ◌++◌, ◌≡◌, length, get_or, drop, set}
+use Rattle.std.specs.Prelude.{ℕ, ◌+◌, ◌*◌, ◌≤◌, ◌<◌, List, ◌++◌, ◌≡◌, length, get_or, drop, set, replicate}
+use Rattle.laws.specs.Rewritten.{Rewritten}
 use Rattle.laws.specs.Turn.{list_below}
 use Rattle.numbers.specs.Words.{word_from}
 use Rattle.excitation.specs.UncertaintySet.{code, decode, single, sets_in}
@@ -35,9 +36,9 @@ pub record SetCodes (inputs : ℕ) (codes : List ℕ) : Type 0 where
 abbrev pub child_codes : List ℕ → ℕ → Excitation → List ℕ
 child_codes parent input e = set parent input (code (single e))
 
--- Codes of the single sets of the probe of the case with these codes.
-pub record ProbeCodes (inputs : ℕ) (codes singles : List ℕ) : Type 0 where
-  pub at : (net : ℕ) → net < inputs → get_or singles net 0 ≡ code (single (first_allowed (decode (get_or codes net 0))))
+-- Codes of the single sets of the probe of the case with these codes: one for each input, and 0 past the inputs.
+abbrev pub ProbeCodes : ℕ → List ℕ → List ℕ → Type 0
+ProbeCodes inputs codes = Rewritten (λ net. code (single (first_allowed (decode (get_or codes net 0))))) 0 inputs (replicate 64 0)
 
 -- A store whose first n records are those of cases.
 pub record HasCases (inputs : ℕ) (store : List ℕ) (n : ℕ) : Type 0 where

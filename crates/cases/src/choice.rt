@@ -8,8 +8,8 @@ use super::sets;
 use block::Net;
 
 // The input of a case to split: the first undecided one in the list's order.
-pub fn choose(codes: &[u8; 64], inputs: usize, order: &[u8]) -> Net
-    requires { (1 ≤ inputs) × (inputs ≤ 64) × NetsListed inputs order.now }
+pub fn choose(codes: &[u8], inputs: usize, order: &[u8]) -> Net
+    requires { (1 ≤ inputs) × (inputs ≤ length codes.now) × NetsListed inputs order.now }
     ensures { (result.0 ≡ first_undecided order.now (sets_in inputs codes.now)) × (result.0 < inputs) }
 {
     for k in 0..inputs {

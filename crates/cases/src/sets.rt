@@ -1,8 +1,8 @@
 // The sets of a case, by their codes: a byte for each input.
-ghost use Rattle.std.specs.Prelude.{◌≡◌, ◌≤◌, ◌<◌, length};
+ghost use Rattle.std.specs.Prelude.{◌≡◌, ◌≤◌, ◌<◌, length, get_or};
 ghost use Rattle.laws.specs.Rewritten.{Rewritten};
 ghost use Rattle.excitation.specs.Excitation.{same, byte_of};
-ghost use Rattle.excitation.specs.UncertaintySet.{decode, sets_in};
+ghost use Rattle.excitation.specs.UncertaintySet.{code, decode, single, sets_in};
 ghost use Rattle.cases.specs.Store.{pattern_byte};
 ghost use Rattle.cases.specs.Records.{ProbeCodes, child_codes};
 ghost use Rattle.cases.specs.Case.{undecided, decided, first_allowed, probe};
@@ -27,8 +27,8 @@ pub fn is_undecided(code: u8) -> bool
 }
 
 // Whether every input is decided.
-pub fn is_decided(codes: &[u8; 64], inputs: usize) -> bool
-    requires { inputs ≤ 64 }
+pub fn is_decided(codes: &[u8], inputs: usize) -> bool
+    requires { inputs ≤ length codes.now }
     ensures { result ≡ decided (sets_in inputs codes.now) }
 {
     codes[..inputs].iter().all(|code| !is_undecided(*code))
@@ -73,21 +73,29 @@ fn byte_of(e: Excitation) -> u8
     }
 }
 
-// The codes of the single sets of a case's probe.
-pub fn probe_codes(codes: &[u8; 64], inputs: usize) -> [u8; 64]
-    requires { inputs ≤ 64 }
-    ensures { ProbeCodes inputs codes.now result }
+// Writes the codes of the single sets of a case's probe, a byte for each input.
+pub fn write_probe_codes(codes: &[u8], inputs: usize, singles: &mut [u8])
+    requires { (inputs ≤ length codes.now) × (inputs ≤ length singles.old) }
+    ensures { Rewritten (λ net. code (single (first_allowed (decode (get_or codes.now net 0))))) 0 inputs singles.old singles.new }
 {
-    let mut singles = [0u8; 64];
     for net in 0..inputs {
         singles[net] = excitation::single(first_allowed(codes[net])).code;
     }
+}
+
+// The same codes by value, and 0 past the inputs.
+pub fn probe_codes(codes: &[u8], inputs: usize) -> [u8; 64]
+    requires { (inputs ≤ length codes.now) × (inputs ≤ 64) }
+    ensures { ProbeCodes inputs codes.now result }
+{
+    let mut singles = [0u8; 64];
+    write_probe_codes(codes, inputs, &mut singles);
     singles
 }
 
 // Writes a case's probe, a byte for each input.
-pub fn write_probe(codes: &[u8; 64], inputs: usize, pattern: &mut [u8])
-    requires { (inputs ≤ 64) × (inputs ≤ length pattern.old) }
+pub fn write_probe(codes: &[u8], inputs: usize, pattern: &mut [u8])
+    requires { (inputs ≤ length codes.now) × (inputs ≤ length pattern.old) }
     ensures { Rewritten (pattern_byte (probe (sets_in inputs codes.now))) 0 inputs pattern.old pattern.new }
 {
     for net in 0..inputs {

@@ -27,9 +27,10 @@ pub record HasRows (work : List ℕ) (nets : ℕ) : Type 0 where
   pub whole : 160 * nets ≤ length work
   pub numbered : nets ≤ 1024
 
--- Bytes of which one for each input codes a set.
-abbrev pub InputCodes : ℕ → List ℕ → Type 0
-InputCodes inputs codes = (net : ℕ) → net < inputs → get_or codes net 0 < 16
+-- Codes of sets, one for each input at least.
+pub record InputCodes (inputs : ℕ) (codes : List ℕ) : Type 0 where
+  pub enough : inputs ≤ length codes
+  pub low : (net : ℕ) → net < inputs → get_or codes net 0 < 16
 
 -- The buffer once the inputs' waveforms are made.
 pub record InputsMade (file : File) (inputs : ℕ) (codes work after : List ℕ) : Type 0 where

@@ -49,7 +49,7 @@ impl Setting<'_> {
     ghost use Rattle.evaluation.specs.Evaluation.{HasRows, InputCodes, InputsMade, Evaluable, sheet_for, BlockDrawn, Evaluated};
 
     // Makes the waveforms of the inputs.
-    fn make_inputs(self, codes: &[u8; 64], work: &mut [u8])
+    fn make_inputs(self, codes: &[u8], work: &mut [u8])
         requires { InputCodes self.inputs codes.now × HasRows work.old self.inputs }
         ensures { InputsMade self.entry.file.now self.entry.inputs codes.now work.old work.new }
     {
@@ -61,7 +61,7 @@ impl Setting<'_> {
 
     // Draws the current of every gate of the block, whose inputs have these sets, in the changes of a sheet. Returns the tick after which
     // no pulse is left.
-    fn draw(self, codes: &[u8; 64], sheet: &mut [Word], work: &mut [u8]) -> usize
+    fn draw(self, codes: &[u8], sheet: &mut [Word], work: &mut [u8]) -> usize
         requires { Evaluable self sheet.old work.old × InputCodes self.inputs codes.now }
         ensures { BlockDrawn self.entry codes.now result sheet.new }
     {
@@ -80,7 +80,7 @@ impl Setting<'_> {
     }
 
     // Evaluates the block, whose inputs have these sets: its sheet, drop and quiet tick.
-    pub fn evaluate(self, codes: &[u8; 64], sheet: &mut [Word], work: &mut [u8]) -> Currents
+    pub fn evaluate(self, codes: &[u8], sheet: &mut [Word], work: &mut [u8]) -> Currents
         requires { Evaluable self sheet.old work.old × InputCodes self.inputs codes.now }
         ensures { Evaluated self.entry.table.now (sheet_for self.entry codes.now) result sheet.new }
     {

@@ -20,7 +20,8 @@ use Rattle.cases.proofs.Records.{next_split_lem, greatest_upper_lem}
 use Rattle.cases.proofs.Probes.{split_covered}
 use Rattle.cases.proofs.Outcomes.{stop_exact, stop_within, stop_spent, goes_on}
 use Rattle.bounds.specs.Bounds.{pattern_drop, case_drop}
-use Rattle.search.specs.Steps.{Running, PastKept, CaseToSplit, CaseSplit, EndsSo, Ran, best_in, state_in}
+use Rattle.search.specs.declared.run.RunEnd.{RunEnd}
+use Rattle.search.specs.Steps.{Running, PastKept, CaseToSplit, CaseSplit, EndsSo, EndsAt, Ran, best_in, state_in}
 
 -- What is kept past some cases is kept past more, and through two steps where it is in each.
 pub past_kept : {inputs n m : ℕ} {store pattern store' pattern' store'' pattern'' : List ℕ} → n ≤ m
@@ -126,10 +127,17 @@ module _ {setting : Setting} {order : List ℕ} {ratio budget threshold : ℕ} {
       (stop_spent _ _ _ ratio (state_in setting.inputs n best store' pattern') (budget - splits) splits (omega arith) (λ e. d (next.greatest ∙ e))
       (rw (← next.greatest) l))
 
-  pub ends_so : {told : Option Outcome} → EndsSo upper (best - 1) ratio splits budget told → (outcome : Outcome) → told ≡ Some outcome → Ends outcome
+  ends_so : {told : Option Outcome} → EndsSo upper (best - 1) ratio splits budget told → (outcome : Outcome) → told ≡ Some outcome → Ends outcome
   ends_so so Exact e = ends_exact (rw e at so)
   ends_so so Within e = let by = rw e at so in ends_within by.0 by.1
   ends_so so Spent e = let by = rw e at so in ends_spent by.0 by.1 by.2
+
+  pub ends_at : {told : Option RunEnd} → EndsAt upper (best - 1) splits n ratio budget told → (end : RunEnd) → told ≡ Some end
+      → Ran setting order ratio budget (state_in setting.inputs 1 threshold store pattern) store pattern end store' pattern'
+  ends_at so end e =
+      let by = rw e at so in
+      subst (λ end. Ran setting order ratio budget (state_in setting.inputs 1 threshold store pattern) store pattern end store' pattern') (sym by.0)
+      (ends_so by.1 end.outcome refl)
 
   pub reached_next : {n'' best'' : ℕ} {store'' pattern'' : List ℕ} → (upper ≡ best - 1 → ⊥) → ratio * (best - 1) < 1000 * upper → (splits ≡ budget → ⊥)
       → CaseSplit setting order n best store' pattern' n'' best'' store'' pattern''

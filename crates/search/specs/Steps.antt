@@ -6,7 +6,9 @@ use Rattle.excitation.specs.UncertaintySet.{member, decode}
 use Rattle.excitation.specs.declared.Excitation.{Excitation}
 use Rattle.block.specs.Block.{frame}
 use Rattle.block.specs.Limits.{drop_limit}
+use Rattle.block.specs.Record.{File}
 use Rattle.sheet.specs.Sheet.{sheet_words}
+use Rattle.cases.specs.Case.{Case}
 use Rattle.cases.specs.Choice.{first_undecided}
 use Rattle.cases.specs.Records.{cases_in, HasCases, child_codes}
 use Rattle.cases.specs.Search.{Best, State, SearchEnd, greatest_upper, first_state, next_split, split, search_from}
@@ -45,11 +47,15 @@ pub record PastKept (inputs n : ℕ) (store pattern store' pattern' : List ℕ) 
   pub pattern_long : length pattern' ≡ length pattern
   pub pattern_past : (j : ℕ) → inputs ≤ j → get_or pattern' j 0 ≡ get_or pattern j 0
 
--- The first case made, the whole frame: the state of the search, and its buffers.
-pub record FirstMade (setting : Setting) (store pattern : List ℕ) (threshold : ℕ) (store' pattern' : List ℕ) : Type 0 where
-  pub state : state_in setting.inputs 1 threshold store' pattern' ≡ first_state (pattern_drop setting) (case_drop setting) (frame setting.file.now)
-  pub running : Running setting.inputs 1 threshold store' pattern'
-  pub past : PastKept setting.inputs 1 store pattern store' pattern'
+-- The first case made, the whole frame, whatever simulates a pattern and bounds a case: the state of the search, and its buffers.
+pub record FirstCase (simulated : List Excitation → ℕ) (bound : Case → ℕ) (file : File) (inputs : ℕ) (store pattern : List ℕ) (threshold : ℕ)
+    (store' pattern' : List ℕ) : Type 0 where
+  pub state : state_in inputs 1 threshold store' pattern' ≡ first_state simulated bound (frame file)
+  pub running : Running inputs 1 threshold store' pattern'
+  pub past : PastKept inputs 1 store pattern store' pattern'
+
+abbrev pub FirstMade : Setting → List ℕ → List ℕ → ℕ → List ℕ → List ℕ → Type 0
+FirstMade setting = FirstCase (pattern_drop setting) (case_drop setting) setting.file.now setting.inputs
 
 -- A child made, where the parent's set at the input allows the excitation; else nothing changes. A child is put at the next
 -- place: the parent's for the first, past the cases for the others.
@@ -83,6 +89,13 @@ EndsSo upper lower ratio splits budget (Some Exact) = upper ≡ lower
 EndsSo upper lower ratio splits budget (Some Within) = (upper ≡ lower → ⊥) × (1000 * upper ≤ ratio * lower)
 EndsSo upper lower ratio splits budget (Some Spent) = (upper ≡ lower → ⊥) × (ratio * lower < 1000 * upper) × (splits ≡ budget)
 EndsSo upper lower ratio splits budget None = (upper ≡ lower → ⊥) × (ratio * lower < 1000 * upper) × (splits ≡ budget → ⊥)
+
+-- The same with all that a run says at its end.
+abbrev pub EndsAt : ℕ → ℕ → ℕ → ℕ → ℕ → ℕ → Option RunEnd → Type 0
+EndsAt upper lower splits cases ratio budget None = EndsSo upper lower ratio splits budget None
+EndsAt upper lower splits cases ratio budget (Some ended) =
+    (ended ≡ record { outcome = ended.outcome; upper = upper; lower = lower; splits = splits; cases = cases })
+    × EndsSo upper lower ratio splits budget (Some ended.outcome)
 
 -- A run of the search from a state on, to its end.
 pub record Ran (setting : Setting) (order : List ℕ) (ratio budget : ℕ) (start : State) (store pattern : List ℕ)

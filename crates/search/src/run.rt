@@ -1,11 +1,11 @@
 // The search's loop: the checks before each split, and the split.
-ghost use Rattle.std.specs.Prelude.{◌+◌, ◌*◌, ◌≤◌, ◌<◌, length};
+ghost use Rattle.std.specs.Prelude.{◌≡◌, ◌+◌, ◌*◌, ◌≤◌, ◌<◌, length};
 ghost use Rattle.block.specs.Limits.{drop_limit};
 ghost use Rattle.operation.specs.SplitOrder.{NetsListed};
 ghost use Rattle.cases.specs.Probes.{ProbesCovered};
 ghost use Rattle.evaluation.specs.Evaluation.{Evaluable};
 ghost use Rattle.bounds.specs.Bounds.{pattern_drop};
-ghost use Rattle.search.specs.Steps.{Running, state_in, EndsSo, Ran};
+ghost use Rattle.search.specs.Steps.{Running, state_in, EndsAt, Ran};
 
 use super::split;
 use cases::store;
@@ -32,20 +32,33 @@ pub struct Limits {
     pub ghost budget_high: { budget ≤ 10000 },
 }
 
+// A run that ended so.
+fn ended(outcome: Outcome, upper: u64, lower: u64, splits: u64, cases: usize) -> RunEnd
+    ensures { result ≡ record { outcome = outcome; upper = upper; lower = lower; splits = splits; cases = cases } }
+{
+    RunEnd {
+        outcome,
+        upper,
+        lower,
+        splits,
+        cases,
+    }
+}
+
 impl Limits {
     // The checks before a split, in order: how the run ends here, if it does.
-    fn end_before_split(self, upper: u64, lower: u64, splits: u64) -> Option<Outcome>
+    fn end_before_split(self, upper: u64, lower: u64, splits: u64, cases: usize) -> Option<RunEnd>
         requires { (upper < drop_limit) × (lower < drop_limit) }
-        ensures { EndsSo upper lower self.ratio splits self.budget result }
+        ensures { EndsAt upper lower splits cases self.ratio self.budget result }
     {
         if upper == lower {
-            return Some(Outcome::Exact);
+            return Some(ended(Outcome::Exact, upper, lower, splits, cases));
         }
         if 1000 * upper <= self.ratio * lower {
-            return Some(Outcome::Within);
+            return Some(ended(Outcome::Within, upper, lower, splits, cases));
         }
         if splits == self.budget {
-            return Some(Outcome::Spent);
+            return Some(ended(Outcome::Spent, upper, lower, splits, cases));
         }
         None
     }
@@ -73,14 +86,8 @@ pub fn run(
         let k = store::argmax(store, cases);
         let upper = store::upper(store, k);
         let lower = best - 1;
-        if let Some(outcome) = limits.end_before_split(upper, lower, splits) {
-            return RunEnd {
-                outcome,
-                upper,
-                lower,
-                splits,
-                cases,
-            };
+        if let Some(end) = limits.end_before_split(upper, lower, splits, cases) {
+            return end;
         }
         let step = split::split(
             setting, order, k, upper, cases, best, sheet, pattern, work, store,

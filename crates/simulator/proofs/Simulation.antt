@@ -3,7 +3,7 @@
 use Prim.Native.Nat.{ℕ, suc, ◌≤◌, ◌<◌}
 use mathlib.Core.List.{List, [], ◌∷◌, map}
 use mathlib.Core.Path.{◌≡◌, refl, ap, sym, subst, ◌∙◌}
-use lib.ListN.{get_or}
+use lib.ListN.{length, get_or}
 use Rattle.laws.proofs.Turn.{list_map, list_same}
 use Rattle.excitation.specs.Excitation.{same, hl, lh, excitation_of, pattern_of}
 use Rattle.excitation.specs.UncertaintySet.{member, decode, empty, single, sets_in}
@@ -46,8 +46,8 @@ singles_evaluated {words} {answer} setting codes hops enough e pattern are =
 
 -- The codes of a pattern: their sets have its excitations as their one members.
 module _ {inputs : ℕ} {pattern codes : List ℕ} (coded : PatternCodes inputs pattern codes) where
-  pub pattern_codes : InputCodes inputs codes
-  pattern_codes net h = subst (λ x. x < 16) (sym (coded.at net h)) (code_below _)
+  pub pattern_codes : inputs ≤ length codes → InputCodes inputs codes
+  pattern_codes room = record { enough = room; low = λ net h. subst (λ x. x < 16) (sym (coded.at net h)) (code_below _) }
 
   pub pattern_sets : sets_in inputs codes ≡ map single (pattern_of inputs pattern)
   unfolding sets_in pattern_of

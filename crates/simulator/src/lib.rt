@@ -48,7 +48,7 @@ fn pattern_codes(pattern: &[u8], inputs: usize) -> [u8; 64]
 // not looked at.
 pub fn evaluate_singles(
     setting: Setting<'_>,
-    codes: &[u8; 64],
+    codes: &[u8],
     sheet: &mut [Word],
     work: &mut [u8],
 ) -> Currents

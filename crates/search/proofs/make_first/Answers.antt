@@ -2,6 +2,7 @@
 -- Assumes nothing.
 use native.Mathlib.Omega.{arith}
 use Rattle.cases.proofs.Frames.{frame_coded}
+use Rattle.bounds.specs.Bounds.{pattern_drop, case_drop, own_upper}
 use Rattle.search.proofs.First.{first_made}
 use Rattle.search.proofs.make_first.Goals as goal
 
@@ -15,5 +16,9 @@ make_case-requires c =
     )
 
 pub returns : goal.returns
+unfolding own_upper
 returns c =
-    first_made c.frame_codes.ensures c.make_case.ensures (omega arith) c.requires.1 c.requires.2
+    let setting = c.args.setting in
+    let made = c.make_case.ensures in
+    first_made (pattern_drop setting) (case_drop setting) setting.accepted c.frame_codes.ensures (omega arith) made.stored made.upper_low
+    made.drop_low (made.reached (omega arith)) c.requires.1 c.requires.2

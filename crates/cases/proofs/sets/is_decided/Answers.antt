@@ -1,6 +1,6 @@
 -- `cases::sets::is_decided` meets its contract.
 -- Assumes nothing.
-use Rattle.std.proofs.Common.{arith, rules, not, ◌∙◌}
+use Rattle.std.proofs.Common.{rules, not, ◌∙◌}
 use borrow.Author.Tests.{tests}
 use Rattle.std.proofs.lemmas.Iterator.{YieldsList-from_slice}
 use Rattle.std.proofs.lemmas.Iterator.Search.{all_from_yields_List}
@@ -13,4 +13,4 @@ pub returns : goal.returns
 returns c =
     all_from_yields_List (λ code. not (undecided (decode code))) _ _ _ c.all.ensures.ran (YieldsList-from_slice _ cc)
     (λ x b q k. search (rules, tests))
-    ∙ decided_listed c.args.inputs c.args.codes.now (omega (arith, c.requires, c.told-codes))
+    ∙ decided_listed c.args.inputs c.args.codes.now c.requires

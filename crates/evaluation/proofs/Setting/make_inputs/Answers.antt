@@ -11,10 +11,10 @@ pub of-requires : goal.of-requires
 of-requires c = record { whole = omega (arith, c.args.self.accepted.whole, c.args.self.accepted.inputs_first); numbered = omega (arith, c.requires.1.numbered) }
 
 pub bounds-codes-net : goal.bounds-codes-net
-bounds-codes-net c = omega (arith, c.args.self.accepted.few_inputs)
+bounds-codes-net c = omega (arith, c.requires.0.enough)
 
 pub input_waveform-requires : goal.input_waveform-requires
-input_waveform-requires c = let l = c.loop-net in (has_row l.net (record { whole = omega (arith, c.requires.1.whole, l.invariant.long); numbered = c.requires.1.numbered }) (omega arith), c.requires.0 l.net (omega arith))
+input_waveform-requires c = let l = c.loop-net in (has_row l.net (record { whole = omega (arith, c.requires.1.whole, l.invariant.long); numbered = c.requires.1.numbered }) (omega arith), c.requires.0.low l.net (omega arith))
 
 pub loop-net-preserved : goal.loop-net-preserved
 loop-net-preserved c =

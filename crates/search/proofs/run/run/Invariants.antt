@@ -6,10 +6,10 @@ use lib.ListN.{length}
 use Rattle.search.proofs.Running.{Reached}
 use Rattle.search.proofs.run.run.Given as goal
 
-abbrev pub invariant-loop-outcome : goal.invariant-loop-outcome
-invariant-loop-outcome l =
+abbrev pub invariant-loop-end : goal.invariant-loop-end
+invariant-loop-end l =
     Reached l.setting l.order l.limits.ratio l.limits.budget l.threshold l.initial.store l.initial.pattern l.cases l.best l.splits l.store l.pattern × (length l.sheet ≡ length l.initial.sheet) × (length l.work ≡ length l.initial.work)
 
-abbrev pub decreases-loop-outcome : goal.decreases-loop-outcome
-decreases-loop-outcome l =
+abbrev pub decreases-loop-end : goal.decreases-loop-end
+decreases-loop-end l =
     l.limits.budget - l.splits

@@ -8,6 +8,12 @@ use Rattle.evaluation.proofs.Given.{evaluable_kept}
 use Rattle.search.proofs.Splitting.{child_room, parent_below, splitting_begun, splitting_next, case_split}
 use Rattle.search.proofs.split.split.Goals as goal
 
+pub choose-input-requires : goal.choose-input-requires
+choose-input-requires c =
+    let accepted = c.args.setting.accepted in
+    let long = copied_long (has_case c.requires.1.cases c.requires.2.inside) c.read_sets-parent.ensures in
+    (accepted.one_input, omega (arith, accepted.few_inputs, long), c.requires.3)
+
 pub loop-e-init : goal.loop-e-init
 loop-e-init c = (refl, refl, splitting_begun c.requires.1)
 
