@@ -72,14 +72,16 @@ fn start_of(by: Join) -> usize
 }
 
 // The table of set joins: 256 entries for each of AND, OR and XOR. Whoever joins many sets keeps one and lends it.
-#[derive(Drop)]
+#[derive(Clone, Copy)]
 pub struct JoinTable {
-    entries: [u8; 768],
-    ghost right: { entries ≡ join_table },
+    pub entries: [u8; 768],
+    pub ghost right: { entries ≡ join_table },
 }
 
 // The table to keep.
-pub fn joins() -> JoinTable {
+pub fn joins() -> JoinTable
+    ensures { result.entries ≡ join_table }
+{
     JoinTable { entries: JOINS }
 }
 

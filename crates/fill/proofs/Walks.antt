@@ -34,38 +34,52 @@ module _ (row : List ℕ) where
   one_run first end next early held ended found =
       next_run row first end early held ended ∙ ap (λ rs. run first (end - 1) ∷ rs) (passed row end next found)
 
-  -- The first gap of a row that has several runs is the shortest so far: the runs that are left begin where it ends.
-  module _ (first end next : ℕ) (begun : NextAt true row 0 first) (ended : NextAt false row first end) (found : NextAt true row end next)
-      (two : 2 ≤ length (runs_in row)) where
+  module _ (first end next : ℕ) (begun : NextAt true row 0 first) (ended : NextAt false row first end) (found : NextAt true row end next) where
     all : runs_in row ≡ runs_after row first
     all = sym (all_runs row) ∙ passed row 0 first begun
 
-    first_early : first < 256
-    first_early = ⊎_elim (λ (e : first ≡ 256). absurd (few e)) (λ l. l) (eq-or-lt_of_le begun.high)
+    first_run : first < 256 → runs_in row ≡ run first (end - 1) ∷ runs_after row next
+    first_run early = all ∙ one_run first end next early (begun.found early) ended found
+
+    -- The walk over any row begins with a gap that is longer than all of its own.
+    pub walk_first : Walked row (gap 0 256) end next
+    unfolding shortest_gap gaps gaps_after
+    walk_first = record { found = found; rest = ⊎_elim none some (eq-or-lt_of_le begun.high) }
       where
-        few : first ≡ 256 → ⊥
-        few e = let none = ap length (all ∙ ap (runs_after row) e ∙ none_left row) in omega arith
+        none : first ≡ 256 → shortest (gap 0 256) (gaps_after end (runs_after row next)) ≡ shortest (gap 0 256) (gaps (runs_in row))
+        none at_end =
+            let last : next ≡ 256 = omega (arith, ended.low, found.low, found.high) in
+            rw (last, all, at_end, none_left row) refl
 
-    first_run : runs_in row ≡ run first (end - 1) ∷ runs_after row next
-    first_run = all ∙ one_run first end next first_early (begun.found first_early) ended found
+        some : first < 256 → shortest (gap 0 256) (gaps_after end (runs_after row next)) ≡ shortest (gap 0 256) (gaps (runs_in row))
+        some early =
+            let back : suc (end - 1) ≡ end = omega (arith, run_long row first end early (begun.found early) ended) in
+            rw (first_run early, back) refl
 
-    next_early : next < 256
-    next_early = ⊎_elim (λ (e : next ≡ 256). absurd (few e)) (λ l. l) (eq-or-lt_of_le found.high)
-      where
-        few : next ≡ 256 → ⊥
-        few e = let one = ap length (first_run ∙ ap (λ t. run first (end - 1) ∷ runs_after row t) e ∙ ap (λ rs. run first (end - 1) ∷ rs) (none_left row)) in omega arith
+    -- The first gap of a row that has several runs is the shortest so far: the runs that are left begin where it ends.
+    module _ (two : 2 ≤ length (runs_in row)) where
+      first_early : first < 256
+      first_early = ⊎_elim (λ (e : first ≡ 256). absurd (few e)) (λ l. l) (eq-or-lt_of_le begun.high)
+        where
+          few : first ≡ 256 → ⊥
+          few e = let none = ap length (all ∙ ap (runs_after row) e ∙ none_left row) in omega arith
 
-    gaps_are : gaps (runs_in row) ≡ gaps_after end (runs_after row next)
-    unfolding gaps
-    gaps_are =
-        let back : suc (end - 1) ≡ end = omega (arith, run_long row first end first_early (begun.found first_early) ended) in
-        rw (first_run, back) refl
+      next_early : next < 256
+      next_early = ⊎_elim (λ (e : next ≡ 256). absurd (few e)) (λ l. l) (eq-or-lt_of_le found.high)
+        where
+          few : next ≡ 256 → ⊥
+          few e =
+              let one = ap length (first_run first_early ∙ ap (λ t. run first (end - 1) ∷ runs_after row t) e ∙ ap (λ rs. run first (end - 1) ∷ rs) (none_left row)) in
+              omega arith
 
-    pub walk_first : Walked row (gap end (next - end)) end next
-    unfolding shortest_gap gaps_after
-    walk_first =
-        let here = run_here row next next_early (found.found next_early) in
-        record { found = found; rest = rw (gaps_are, here.2) (first_shortest end (next - end) _ (omega (arith, next_early))) }
+      begins : shortest (gap end (next - end)) (gaps_after end (runs_after row next)) ≡ shortest (gap 0 256) (gaps_after end (runs_after row next))
+      unfolding gaps_after
+      begins =
+          let here = run_here row next next_early (found.found next_early) in
+          rw here.2 (first_shortest end (next - end) _ (omega (arith, next_early)))
+
+      pub walk_first_gap : Walked row (gap end (next - end)) end next
+      walk_first_gap = record { found = found; rest = begins ∙ walk_first.rest }
 
   module _ (g : Gap) (end next : ℕ) (so_far : Walked row g end next) where
     -- One run more.

@@ -27,7 +27,7 @@ pub fn push_word(text: &mut Text, word: &str, end: char)
 }
 
 // A number more, and the character after it.
-#[tactic(auto, using(crate::proofs::Decimals::decimal_is))]
+#[tactic(auto, using(crate::proofs::Decimals::decimal_written))]
 pub fn push_number(text: &mut Text, number: u64, end: char)
     requires room { length (written text.old) ≤ 299 }
     requires ascii { end < 128 }

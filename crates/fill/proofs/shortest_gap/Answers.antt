@@ -2,11 +2,11 @@
 -- the shortest is that of the row.
 -- Assumes nothing.
 use native.Mathlib.Omega.{arith}
-use Rattle.fill.proofs.Walks.{walk_first, walk_on, walk_more, walk_done}
+use Rattle.fill.proofs.Walks.{walk_first_gap, walk_on, walk_more, walk_done}
 use Rattle.fill.proofs.shortest_gap.Goals as goal
 
 pub loop-next-init : goal.loop-next-init
-loop-next-init c = walk_first _ _ _ _ c.next_at-first.ensures c.next_at-end.ensures c.next_at-next.ensures c.requires
+loop-next-init c = walk_first_gap _ _ _ _ c.next_at-first.ensures c.next_at-end.ensures c.next_at-next.ensures c.requires
 
 pub loop-next-smaller : goal.loop-next-smaller
 loop-next-smaller c =
