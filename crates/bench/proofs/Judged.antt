@@ -72,12 +72,12 @@ module _ (forms : List Form) (kept : List Name) (number : ℕ) (gates : Bool) wh
         input_judged number (names ++ names_of forms) gates word proper first e (ap not (one names word held right proper named)) second)
 
   pub judged_gate : {given : GateLine} {again found : Bool} {v : Verdict} → KnownIn forms kept given.name again
-      → AllKnownIn forms kept given.pins.items found → v ≡ verdict (check WrongName number (not again && found) ∷ [])
+      → AllKnownIn forms kept given.pins found → v ≡ verdict (check WrongName number (not again && found) ∷ [])
       → JudgedIn forms kept (Gate given) number gates v
   judged_gate {v = v} one all first names form held right is formed =
       gate_told (λ form. v ≡ verdict (line_checks number (names ++ names_of forms) gates form)) form formed is
       (λ name word pins fits same.
       gate_judged number (names ++ names_of forms) gates name word pins fits
       (ap not (one names name held right (gate_named name word pins fits) (ap (λ g. g.name) same)))
-      (all names pins held right (gate_pins name word pins fits) (ap (λ g. g.pins.items) same))
+      (all names pins held right (gate_pins name word pins fits) (ap (λ g. g.pins) same))
       first)

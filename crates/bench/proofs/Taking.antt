@@ -5,11 +5,10 @@ use Prim.Native.Nat.{ℕ}
 use mathlib.Core.Bool.{Bool, true, false, cond, not, ◌&&◌, ◌||◌, and-true, and-false, or-true, or-false, false≢true}
 use mathlib.Core.List.{List, [], ◌∷◌, ◌++◌, append-nil}
 use mathlib.Core.Path.{◌≡◌, refl, sym, ap, ◌∙◌}
-use Rattle.arrayvec.specs.ArrayVec.{array_vec_len}
 use Rattle.std.proofs.lemmas.List.{length-map}
 use Rattle.std.proofs.Common.{Option, Some, None}
 use Rattle.std.specs.Prelude.{is_some, Err}
-use lib.ListN.{get_or}
+use lib.ListN.{length, get_or}
 use Rattle.block.specs.declared.verdict.Refusal.{Refusal}
 use Rattle.block.specs.Verdict.{check, verdict, refusal, Verdict, Accepted}
 use Rattle.block.specs.declared.verdict.Reason.TheVariants.{WrongLine, WrongName}
@@ -78,13 +77,13 @@ module _ (before : Table) {given : GateLine} (name word : Letters) (pins : List 
   known_is : {place : Option ℕ} → Placed (held_names before) given.name place → is_some place ≡ known name names
   known_is named = known_by_place named names name held (gate_named name word pins fits) (ap (λ g. g.name) same)
 
-  nets_are : {nets : Option (List ℕ)} → PinsPlaced (held_names before) given.pins.items nets
+  nets_are : {nets : Option (List ℕ)} → PinsPlaced (held_names before) given.pins nets
       → nets ≡ cond (all_known pins names) (Some (four_nets names pins)) None
-  nets_are placed = placed names pins held (gate_pins name word pins fits) (ap (λ g. g.pins.items) same)
+  nets_are placed = placed names pins held (gate_pins name word pins fits) (ap (λ g. g.pins) same)
 
 -- A pin is unknown.
 pub gate_unknown : {given : GateLine} {number : ℕ} {list : List ℕ} {before after : Table} {nets : Option (List ℕ)}
-    → PinsPlaced (held_names before) given.pins.items nets → nets ≡ None → GateTaken given number list before after (Err (refusal WrongName number))
+    → PinsPlaced (held_names before) given.pins nets → nets ≡ None → GateTaken given number list before after (Err (refusal WrongName number))
 unfolding verdict
 gate_unknown {number = number} {before = before} placed e name word pins fits same names held =
     let unknown = told_none (four_nets names pins) (all_known pins names) (sym e ∙ nets_are before name word pins fits same names held placed) in
@@ -96,7 +95,7 @@ gate_unknown {number = number} {before = before} placed e name word pins fits sa
 
 -- All pins are known: the check of the name decides.
 module _ {given : GateLine} (number : ℕ) (before : Table) {place : Option ℕ} {nets : Option (List ℕ)} {found : List ℕ}
-    {again : Bool} {v : Verdict} (placed : PinsPlaced (held_names before) given.pins.items nets) (all : nets ≡ Some found)
+    {again : Bool} {v : Verdict} (placed : PinsPlaced (held_names before) given.pins nets) (all : nets ≡ Some found)
     (named : Placed (held_names before) given.name place) (is : again ≡ is_some place)
     (made : v ≡ verdict (check WrongName number (not again) ∷ [])) where
   gate_checked : (name word : Letters) (pins : List Letters) → form_right (gate name word pins) ≡ true → given ≡ gate_kept name word pins
@@ -115,7 +114,7 @@ module _ {given : GateLine} (number : ℕ) (before : Table) {place : Option ℕ}
   gate_again {r = r} e name word pins fits same names held =
       record { judged = sym e ∙ (gate_checked name word pins fits same names held).0; added = λ a. apart r a }
 
-  pub gate_taken : {list : List ℕ} {after : Table} → v ≡ Accepted → Grown before after given.name (gate_record list given.kind (array_vec_len given.pins) (λ p. get_or found p 0))
+  pub gate_taken : {list : List ℕ} {after : Table} → v ≡ Accepted → Grown before after given.name (gate_record list given.kind (length given.pins) (λ p. get_or found p 0))
       → after.gates ≡ true → GateTaken given number list before after Accepted
   unfolding given_by record_of gate_record four_nets
   gate_taken e grown gates name word pins fits same names held =

@@ -16,10 +16,10 @@ pub fn position(names: &[Name], name: Name) -> Option<usize>
 // The nets of a gate's pins, 0 for an unused one; none where a pin is unknown.
 pub fn pin_nets(names: &[Name], pins: &Names) -> Option<[u16; 4]>
     requires { length names.now ≤ 1024 }
-    ensures { PinsPlaced names.now pins.now.items result }
+    ensures { PinsPlaced names.now pins.now result }
 {
     let mut nets = [0u16; 4];
-    for (p, pin) in pins.iter().enumerate() {
+    for (p, pin) in pins.as_slice().iter().enumerate() {
         let net = position(names, *pin)?;
         nets[p] = net as u16;
     }

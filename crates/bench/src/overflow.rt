@@ -71,7 +71,7 @@ impl Earlier<'_> {
             }
             Line::Gate(gate) => {
                 let new = !self.knows(gate.name);
-                let found = self.knows_all(&gate.pins);
+                let found = self.knows_all(gate.pins.as_slice());
                 check(Reason::WrongName, place, new & found)
             }
         }

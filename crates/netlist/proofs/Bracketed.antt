@@ -7,7 +7,6 @@ use mathlib.Core.Path.{◌≡◌, refl, ap, sym, ◌∙◌}
 use native.Mathlib.Omega.{arith}
 use lib.ListN.{length, length-append}
 use Rattle.std.proofs.lemmas.List.{length-map, map-append}
-use Rattle.arrayvec.specs.ArrayVec.{ArrayVec, array_vec_len}
 use borrow.Author.Tests.{le-leb, lt-leb}
 use borrow.Table.Steps.{cases}
 use Rattle.std.proofs.Common.{Some, None}
@@ -65,23 +64,23 @@ unfolding brackets_kept brackets_right
 right_kept_lem parts words e b n h = rw (e, b, n, le-leb (length words) 4 h) refl
 
 -- What is read after a bracket: names, and `rest` is left.
-pub record NamesSoFar (line : List ℕ) (names : ArrayVec Name) (rest : List ℕ) : Type 0 where
+pub record NamesSoFar (line : List ℕ) (names : List Name) (rest : List ℕ) : Type 0 where
   pub words : List Letters
   pub proper : are_names words ≡ true
-  pub kept : names.items ≡ map name_kept words
+  pub kept : names ≡ map name_kept words
   pub closes : closed (parts_in line) ≡ closed (parts_in rest)
   pub goes_on : bracketed (parts_in line) ≡ words ++ bracketed (parts_in rest)
 
-pub names_none : (line : List ℕ) (names : ArrayVec Name) → names.items ≡ [] → NamesSoFar line names line
+pub names_none : (line : List ℕ) (names : List Name) → names ≡ [] → NamesSoFar line names line
 unfolding are_names
 names_none line names e = record { words = []; proper = refl; kept = e; closes = refl; goes_on = refl }
 
-module _ (line : List ℕ) (names : ArrayVec Name) (rest : List ℕ) (s : NamesSoFar line names rest) where
+module _ (line : List ℕ) (names : List Name) (rest : List ℕ) (s : NamesSoFar line names rest) where
   -- As many names are kept as are read.
-  names_counted : array_vec_len names ≡ length s.words
+  names_counted : length names ≡ length s.words
   names_counted = ap length s.kept ∙ length-map s.words name_kept
 
-  pub names_many : 4 ≤ array_vec_len names → None ≡ brackets_kept (parts_in line)
+  pub names_many : 4 ≤ length names → None ≡ brackets_kept (parts_in line)
   names_many h =
       too_many (parts_in line)
       (omega (
@@ -103,8 +102,8 @@ module _ (line : List ℕ) (names : ArrayVec Name) (rest : List ℕ) (s : NamesS
     names_stop e = not_closed (parts_in line) (s.closes ∙ ap closed r.is ∙ e)
 
     -- The names with this one.
-    module _ (few : array_vec_len names < 4) (named : is_name r.letters ≡ true) {names' : ArrayVec Name}
-        (pushed : names'.items ≡ names.items ++ (piece.word.name ∷ [])) where
+    module _ (few : length names < 4) (named : is_name r.letters ≡ true) {names' : List Name}
+        (pushed : names' ≡ names ++ (piece.word.name ∷ [])) where
       abbrev words' : List Letters
       words' = s.words ++ (r.letters ∷ [])
 
@@ -115,7 +114,7 @@ module _ (line : List ℕ) (names : ArrayVec Name) (rest : List ℕ) (s : NamesS
       unfolding are_names
       proper_more = names_append s.words (r.letters ∷ []) ∙ and_both s.proper (and_both named refl)
 
-      kept_more : names'.items ≡ map name_kept words'
+      kept_more : names' ≡ map name_kept words'
       unfolding word_kept
       kept_more = pushed ∙ rw (s.kept, ap (λ word. word.name) r.word, map-append name_kept s.words (r.letters ∷ [])) refl
 
@@ -144,5 +143,4 @@ module _ (line : List ℕ) (names : ArrayVec Name) (rest : List ℕ) (s : NamesS
         names_closed true e =
             let all : bracketed (parts_in line) ≡ words' =
             s.goes_on ∙ ap (λ parts. s.words ++ bracketed parts) (piece_parts rest piece r Close refl m) in
-            let is : names' ≡ names_kept words' = ap (λ (items : List Name). record { items = items }) kept_more in
-            rw is (right_kept_lem (parts_in line) words' (last ∙ sym e) all proper_more many_more)
+            rw kept_more (right_kept_lem (parts_in line) words' (last ∙ sym e) all proper_more many_more)

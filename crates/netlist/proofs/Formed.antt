@@ -11,7 +11,6 @@ use borrow.Author.Tests.{leb-false, eqb-true}
 use borrow.Table.Steps.{cases}
 use Rattle.std.proofs.Common.{Some, None}
 use Rattle.std.specs.Bool.{then_some}
-use Rattle.arrayvec.specs.ArrayVec.{ArrayVec, array_vec_len}
 use Rattle.std.proofs.lemmas.List.{length-map}
 use Rattle.laws.specs.Ascii.{ascii}
 use Rattle.laws.proofs.Tests.{and_left, and_right, and_first_fails, and_second_fails}
@@ -28,7 +27,7 @@ use Rattle.netlist.proofs.Packing.{short_same}
 use Rattle.netlist.proofs.RightGates.{kind_low, pins_few}
 
 -- Names in brackets that are right.
-record RightBrackets (parts : List Part) (names : ArrayVec Name) : Type 0 where
+record RightBrackets (parts : List Part) (names : List Name) : Type 0 where
   pub closes : closed parts ≡ true
   pub proper : are_names (bracketed parts) ≡ true
   pub kept : names ≡ names_kept (bracketed parts)
@@ -40,7 +39,7 @@ fails true false c e f g h = g refl
 fails false b c e f g h = f refl
 
 module _ (parts : List Part) where
-  brackets_right_lem : {names : ArrayVec Name} → Some names ≡ brackets_kept parts → RightBrackets parts names
+  brackets_right_lem : {names : List Name} → Some names ≡ brackets_kept parts → RightBrackets parts names
   unfolding brackets_kept brackets_right
   brackets_right_lem {names} is =
       cases (brackets_right parts)
@@ -115,14 +114,14 @@ module _ (letters : Letters) (parts : List Part) where
       (λ u. by_words (declaring_wrong letters (bracketed parts) u))
       (λ h. by_words (declaring_many letters (bracketed parts) (λ one. omega arith)))
 
-  module _ {names : ArrayVec Name} (is : Some names ≡ brackets_kept parts) where
-    pub declared_many : (array_vec_len names ≡ 1 → ⊥) → None ≡ line_kept (declared letters parts)
+  module _ {names : List Name} (is : Some names ≡ brackets_kept parts) where
+    pub declared_many : (length names ≡ 1 → ⊥) → None ≡ line_kept (declared letters parts)
     declared_many other =
         let kept = (brackets_right_lem parts is).kept in
         by_words
-        (declaring_many letters (bracketed parts) (λ one. other (ap array_vec_len kept ∙ length-map (bracketed parts) name_kept ∙ one)))
+        (declaring_many letters (bracketed parts) (λ one. other (ap length kept ∙ length-map (bracketed parts) name_kept ∙ one)))
 
-    pub declared_right : (kept : Name) → names.items ≡ kept ∷ [] → lettered letters ≡ true → (number : ℕ) → number ≡ short_number letters
+    pub declared_right : (kept : Name) → names ≡ kept ∷ [] → lettered letters ≡ true → (number : ℕ) → number ≡ short_number letters
         → line_kept (declared letters parts)
         ≡ cond (eqb number (number_of (ascii "INPUT"))) (Some (Input kept)) (cond (eqb number (number_of (ascii "OUTPUT"))) (Some Nothing) None)
     unfolding declared lettered is_letter_or_digit within
@@ -134,7 +133,7 @@ module _ (letters : Letters) (parts : List Part) where
           short_same letters (ascii "INPUT") l refl (omega arith) (omega arith),
           short_same letters (ascii "OUTPUT") l refl (omega arith) (omega arith),
         )
-        (declaring_one letters (bracketed parts) kept (sym (ap (λ names. names.items) right.kept) ∙ one) right.proper)
+        (declaring_one letters (bracketed parts) kept (sym right.kept ∙ one) right.proper)
 
 -- `name=KIND(name,...)`.
 
@@ -181,8 +180,8 @@ module _ (letters word : Letters) (parts : List Part) (all : List Part) (from : 
       ∙ sym assigned_open
 
   -- What the code makes of it, by its tests of the name and of the pin count.
-  pub assigned_right : {names : ArrayVec Name} {kind : ℕ} {named counted : Bool} → Some names ≡ brackets_kept parts → Some kind ≡ kind_kept word
-      → named ≡ is_name letters → counted ≡ pins_allowed kind (array_vec_len names)
+  pub assigned_right : {names : List Name} {kind : ℕ} {named counted : Bool} → Some names ≡ brackets_kept parts → Some kind ≡ kind_kept word
+      → named ≡ is_name letters → counted ≡ pins_allowed kind (length names)
       → then_some (named && counted) (Gate (record { kind = kind; name = name_kept letters; pins = names })) ≡ line_kept (assigned letters all)
   unfolding line_kept form_right
   assigned_right {names} {kind} {named} {counted} is kind_is named_is counted_is =

@@ -1,13 +1,13 @@
 -- Laws of lines, of their content and of its parts, as pieces are read one byte after the other.
 -- Assumes nothing.
-use Prim.Native.Nat.{ℕ, suc, ◌+◌, ◌≤◌, ◌<◌, min}
+use Prim.Native.Nat.{ℕ, suc, ◌+◌, ◌-◌, ◌≤◌, ◌<◌, min}
 use mathlib.Core.Bool.{true, false, ◌||◌, or_assoc, false≢true}
 use mathlib.Core.List.{List, [], ◌∷◌, ◌++◌, append-nil, append_assoc}
 use mathlib.Core.Path.{◌≡◌, refl, ap, sym, ◌∙◌}
 use native.Mathlib.Numerals.{add-one, one-add}
 use native.Mathlib.Omega.{arith}
 use lib.Dec.{eqb}
-use lib.ListN.{length, get_or, take, drop, drop_of_length-le}
+use lib.ListN.{length, get_or, take, drop, length-drop, drop_of_length-le}
 use lib.Seq.{drop-cons}
 use borrow.Author.Tests.{eqb-true, ne_eqb}
 use borrow.Table.Steps.{cases}
@@ -22,7 +22,7 @@ use Rattle.netlist.specs.declared.Word.{Word}
 use Rattle.netlist.specs.Lines.{lines_of, started_by, is_blank, uncommented, without_blanks, content}
 use Rattle.netlist.specs.Names.{Letters, is_letter_or_digit, lettered}
 use Rattle.netlist.specs.Forms.{Part, part, parts_of, mark_of, begun_by, is_empty, is_end}
-use Rattle.netlist.specs.Kept.{word_kept, OfLetters, PieceRead}
+use Rattle.netlist.specs.Kept.{word_kept, OfLetters, EndOf, PieceRead}
 use Rattle.netlist.proofs.Packing.{first_proper, rest_proper, kept_none}
 
 -- How many bytes come before the first byte 10, all of them where there is none.
@@ -38,6 +38,15 @@ lines_first (byte ∷ []) h = cases (eqb byte 10) (λ e. rw e refl) (λ e. rw e 
 lines_first (byte ∷ next ∷ rest) h =
     cases (eqb byte 10) (λ e. rw e refl)
     (λ e. rw e (rw one-add (ap (started_by byte) (lines_first (next ∷ rest) (omega arith)))))
+
+-- A text ends with what stands from a byte on, and with nothing.
+
+pub end_from : (text : List ℕ) (at : ℕ) → at ≤ length text → EndOf text (drop at text)
+end_from text at h =
+    let from : length text - length (drop at text) ≡ at = omega (arith, length-drop at text) in ap (λ n. drop n text) (sym from)
+
+pub end_none : (text : List ℕ) → EndOf text []
+end_none text = sym (drop_of_length-le text (omega arith))
 
 -- Letters and digits as the code tests them.
 pub letter_tested : (byte : ℕ) → is_ascii_alphanumeric byte ≡ is_letter_or_digit byte
@@ -129,27 +138,30 @@ piece_begun line word e = record { letters = []; kept = kept_none word e; proper
 -- The piece that the letters so far make with the first of the parts that are left.
 piece_read : (line : List ℕ) (at : ℕ) (piece : Piece) (rest : List Part) → PieceSoFar line piece.word at
     → parts_from line at ≡ part [] piece.mark ∷ rest
-    → (is_end piece.mark ≡ false → rest ≡ parts_in piece.rest.now) → PieceRead line piece
-piece_read line at piece rest s e goes_on = record {
+    → (is_end piece.mark ≡ false → rest ≡ parts_in piece.rest.now) → EndOf line piece.rest.now → PieceRead line piece
+piece_read line at piece rest s e goes_on ends = record {
   letters = s.letters;
   rest = rest;
   is = s.goes_on ∙ ap (begun_with s.letters) e ∙ ap (λ letters. part letters piece.mark ∷ rest) (append-nil s.letters);
   word = s.kept;
   proper = s.proper;
   goes_on = goes_on;
+  ends = ends;
 }
 
 -- What one byte more makes of a piece.
 module _ (line : List ℕ) (word : Word) (at : ℕ) (s : PieceSoFar line word at) where
-  piece_last : parts_from line at ≡ part [] End ∷ [] → (piece : Piece) → piece.word ≡ word → piece.mark ≡ End → PieceRead line piece
-  piece_last e piece w m =
-      piece_read line at piece [] (rw w s) (rw m e) (λ t. absurd (false≢true (sym t ∙ ap is_end m)))
+  piece_last : parts_from line at ≡ part [] End ∷ [] → (piece : Piece) → piece.word ≡ word → piece.mark ≡ End
+      → piece.rest.now ≡ [] → PieceRead line piece
+  piece_last e piece w m r =
+      piece_read line at piece [] (rw w s) (rw m e) (λ t. absurd (false≢true (sym t ∙ ap is_end m))) (rw r (end_none line))
 
-  pub piece_ended : length line ≤ at → (piece : Piece) → piece.word ≡ word → piece.mark ≡ End → PieceRead line piece
+  pub piece_ended : length line ≤ at → (piece : Piece) → piece.word ≡ word → piece.mark ≡ End → piece.rest.now ≡ [] → PieceRead line piece
   piece_ended h = piece_last (at_end line at h)
 
   module _ (on : at < length line) where
-    pub piece_commented : byte_at line at ≡ 35 → (piece : Piece) → piece.word ≡ word → piece.mark ≡ End → PieceRead line piece
+    pub piece_commented : byte_at line at ≡ 35 → (piece : Piece) → piece.word ≡ word → piece.mark ≡ End → piece.rest.now ≡ []
+        → PieceRead line piece
     piece_commented e = piece_last (at_comment line at on e)
 
     module _ (other : byte_at line at ≡ 35 → ⊥) where
@@ -176,6 +188,7 @@ module _ (line : List ℕ) (word : Word) (at : ℕ) (s : PieceSoFar line word at
       piece_marked piece w e f m r =
           piece_read line at piece (parts_from line (at + 1)) (rw w s)
           (at_mark line at on other e f ∙ ap (λ m. part [] m ∷ parts_from line (at + 1)) (sym m)) (λ t. ap parts_in (sym r))
+          (rw r (end_from line (at + 1) (omega arith)))
 
 -- A word that has no letter.
 pub kept_empty : (letters : Letters) (word : Word) → word ≡ word_kept letters → eqb word.length 0 ≡ is_empty letters

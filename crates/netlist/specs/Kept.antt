@@ -1,6 +1,5 @@
 -- How the code keeps words, names and lines, and what its functions promise of them.
-use Rattle.std.specs.Prelude.{ℕ, ◌+◌, ◌*◌, ◌<◌, min, Bool, true, false, cond, ◌&&◌, Option, Some, None, List, [], ◌∷◌, map, reverse, ◌≡◌, leb, eqb, length, take, drop}
-use Rattle.arrayvec.specs.ArrayVec.{ArrayVec}
+use Rattle.std.specs.Prelude.{ℕ, ◌+◌, ◌-◌, ◌*◌, ◌<◌, min, Bool, true, false, cond, ◌&&◌, Option, Some, None, List, [], ◌∷◌, map, reverse, ◌≡◌, leb, eqb, length, take, drop}
 use Rattle.netlist.specs.declared.GateLine.{GateLine}
 use Rattle.netlist.specs.declared.Line.{Line}
 use Rattle.netlist.specs.declared.Line.TheVariants.{Nothing, Input, Gate}
@@ -52,10 +51,10 @@ unfoldable pub brackets_right : List Part → Bool
 brackets_right parts = closed parts && (are_names (bracketed parts) && leb (length (bracketed parts)) 4)
 
 -- They are kept in their order.
-abbrev pub names_kept : List Letters → ArrayVec Name
-names_kept words = record { items = map name_kept words }
+abbrev pub names_kept : List Letters → List Name
+names_kept words = map name_kept words
 
-unfoldable pub brackets_kept : List Part → Option (ArrayVec Name)
+unfoldable pub brackets_kept : List Part → Option (List Name)
 brackets_kept parts = cond (brackets_right parts) (Some (names_kept (bracketed parts))) None
 
 -- A gate is kept with its kind, its name and its pins.
@@ -85,12 +84,19 @@ line_is_gate Nothing = false
 line_is_gate (Input name) = false
 line_is_gate (Gate given) = true
 
--- The first line of a text, with what is left of the text after it.
+-- What a text ends with.
+abbrev pub EndOf : List ℕ → List ℕ → Type 0
+EndOf text rest = rest ≡ drop (length text - length rest) text
+
+-- The first line of a text, which the text begins with, and what is left of the text after it, which the text ends with.
 pub record FirstLine (text line rest : List ℕ) : Type 0 where
   pub is : lines_of text ≡ line ∷ lines_of rest
+  pub begins : line ≡ take (length line) text
+  pub ends : EndOf text rest
   pub shorter : length rest < length text
 
--- The piece that a line starts with, read: the first part of its content, and what is left of the line after it.
+-- The piece that a line starts with, read: the first part of its content, and what is left of the line after it, which the line ends
+-- with.
 pub record PieceRead (line : List ℕ) (piece : Piece) : Type 0 where
   pub letters : Letters
   pub rest : List Part
@@ -98,3 +104,4 @@ pub record PieceRead (line : List ℕ) (piece : Piece) : Type 0 where
   pub word : piece.word ≡ word_kept letters
   pub proper : lettered letters ≡ true
   pub goes_on : is_end piece.mark ≡ false → rest ≡ parts_of (content piece.rest.now)
+  pub ends : EndOf line piece.rest.now

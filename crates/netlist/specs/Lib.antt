@@ -2,4 +2,5 @@ pub mod Lines
 pub mod Names
 pub mod Forms
 pub mod Kept
+pub mod Places
 pub mod Written

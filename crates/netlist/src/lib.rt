@@ -7,7 +7,7 @@ ghost use Rattle.netlist.specs.Lines.{content};
 ghost use Rattle.netlist.specs.Forms.{parts_of, declared, assigned, line_form};
 ghost use Rattle.netlist.specs.Kept.{FirstLine, line_kept, line_name, line_is_gate, OfLetters};
 
-use arrayvec::ArrayVec;
+use std::marker::Model;
 
 mod brackets;
 mod pieces;
@@ -46,11 +46,35 @@ pub struct Piece<'a> {
     pub rest: &'a [u8],
 }
 
-// Names in brackets, four at most.
-pub type Names = ArrayVec<Name, 4>;
+// Names in brackets, four at most: they stand in the first of four places, and no name in the others.
+#[derive(Clone, Copy)]
+pub struct Names {
+    places: [Name; 4],
+    used: usize,
+}
+
+impl Model for Names {
+    ghost use Rattle.std.specs.Prelude.{List, take, length};
+    ghost use Rattle.netlist.specs.declared.Name.{Name};
+
+    ghost Value = { List Name };
+
+    ghost use Rattle.netlist.specs.Places.{four_places, FourPlaces, placed_again, counted};
+
+    ghost view = { λ a. take a.used a.places };
+
+    ghost invariant = { λ a. FourPlaces a.places a.used };
+
+    ghost inverse = { λ names. record { places = four_places names; used = length names } };
+
+    ghost inverse_ok = { λ a h i. record {
+      places = placed_again a.places a.used h i;
+      used = counted a.places a.used h i;
+    } };
+}
 
 // A gate as its line has it: its kind, as document 01 numbers kinds, its name and its pins' names, as many as its pin count.
-#[derive(Drop)]
+#[derive(Clone, Copy)]
 pub struct GateLine {
     pub kind: usize,
     pub name: Name,
@@ -58,7 +82,7 @@ pub struct GateLine {
 }
 
 // A line that is right by itself, by the record that it gives: none, an input's or a gate's.
-#[derive(Drop)]
+#[derive(Clone, Copy)]
 pub enum Line {
     Nothing,
     Input(Name),
@@ -115,7 +139,7 @@ fn declaration(word: Word, rest: &[u8]) -> Option<Line>
         return None;
     }
     match word.short() {
-        0x494e505554 => Some(Line::Input(names[0])),
+        0x494e505554 => Some(Line::Input(names.as_slice()[0])),
         0x4f5554505554 => Some(Line::Nothing),
         _ => None,
     }

@@ -17,15 +17,15 @@ returns-then-len-ne1 c letters e l =
 pub returns-in-314846500180 : goal.returns-in-314846500180
 unfolding number_of backwards
 returns-in-314846500180 c letters e l =
-    let one = single c.in_ok-names.names.items no_name (omega arith) (omega arith) in
+    let one = single c.in_ok-names.names no_name (omega arith) (omega arith) in
     let line = declared_right letters _ (sym c.in_ok-names.was ∙ c.read_names.ensures) _ one l
     c.short.result (c.short.ensures letters e l) in
-    sym (line ∙ rw (c.in-314846500180.is, c.deref.ensures.0) refl)
+    sym (line ∙ rw (c.in-314846500180.is, c.as_slice.ensures.value) refl)
 
 pub returns-in-87227905365332 : goal.returns-in-87227905365332
 unfolding number_of backwards
 returns-in-87227905365332 c letters e l =
-    let one = single c.in_ok-names.names.items no_name (omega arith) (omega arith) in
+    let one = single c.in_ok-names.names no_name (omega arith) (omega arith) in
     let line = declared_right letters _ (sym c.in_ok-names.was ∙ c.read_names.ensures) _ one l
     c.short.result (c.short.ensures letters e l) in
     sym (line ∙ rw c.in-87227905365332.is refl)
@@ -34,7 +34,7 @@ pub returns-in_default : goal.returns-in_default
 unfolding number_of backwards
 returns-in_default c letters e l =
     let number = c.short.result in
-    let one = single c.in_ok-names.names.items no_name (omega arith) (omega arith) in
+    let one = single c.in_ok-names.names no_name (omega arith) (omega arith) in
     let line = declared_right letters _ (sym c.in_ok-names.was ∙ c.read_names.ensures) _ one l
     number (c.short.ensures letters e l) in
     sym (line ∙ rw (ne_eqb number 0x494e505554 (omega arith), ne_eqb number 0x4f5554505554 (omega arith)) refl)

@@ -4,15 +4,15 @@
 use Rattle.std.proofs.Common.{Some, None, cond}
 use Prim.Native.Nat.{ℕ, suc, ◌+◌, ◌≤◌, ◌<◌}
 use mathlib.Core.List.{List, [], ◌∷◌}
-use mathlib.Core.Path.{◌≡◌, refl, sym, ◌∙◌}
+use mathlib.Core.Path.{◌≡◌, refl, ap, sym, ◌∙◌}
 use native.Mathlib.Omega.{arith}
 use lib.Dec.{ltb}
 use lib.ListN.{length, take, drop, length-drop, drop_of_length-le}
 use borrow.Author.Tests.{ltb-true, ltb-false, eqb-false}
 use borrow.Table.Steps.{cases}
-use Rattle.std.proofs.lemmas.List.{take_all, take_rest}
+use Rattle.std.proofs.lemmas.List.{take_all, take_rest, length-take-le}
 use Rattle.netlist.specs.Lines.{lines_of}
-use Rattle.netlist.proofs.Parts.{line_length, lines_first}
+use Rattle.netlist.proofs.Parts.{line_length, lines_first, end_from, end_none}
 use Rattle.netlist.proofs.split_line.Goals as goal
 
 -- What the search for the line's end came to, by where that is and how long the text is.
@@ -46,11 +46,21 @@ returns-in-Some c =
     let after = c.in-Some.end + 1 in
     let ends = found (line_length text) (length text) (sym c.in-Some.ensures) in
     rw (take_rest text after)
-    (record { is = ends_at text c.in-Some.end ends.0 (rw ends.0 ends.1); shorter = omega (arith, ends, length-drop after text) })
+    (record {
+      is = ends_at text c.in-Some.end ends.0 (rw ends.0 ends.1);
+      begins = ap (λ n. take n text) (sym (length-take-le c.in-Some.end text (omega (arith, ends))));
+      ends = end_from text after (omega (arith, ends));
+      shorter = omega (arith, ends, length-drop after text);
+    })
 
 pub returns-in-None-2 : goal.returns-in-None-2
 returns-in-None-2 c =
     let text = c.args.text.now in
     let other = eqb-false (length text) 0 (sym c.is_empty.ensures ∙ c.if-is_empty.false) in
     let some : 1 ≤ length text = omega arith in
-    record { is = ends_nowhere text some (none_found (line_length text) (length text) (sym c.in-None.ensures)); shorter = omega arith }
+    record {
+      is = ends_nowhere text some (none_found (line_length text) (length text) (sym c.in-None.ensures));
+      begins = sym (take_all (length text) text (omega arith));
+      ends = end_none text;
+      shorter = omega arith;
+    }

@@ -18,4 +18,4 @@ returns-in_ok-check-in-Input c =
 
 pub returns-in-Gate : goal.returns-in-Gate
 returns-in-Gate c =
-    rw c.in-Gate.is (judged_gate _ _ _ _ c.knows-new-in-Gate.ensures (rw c.deref.ensures.0 at c.knows_all-found.ensures) c.check-in-Gate.ensures)
+    rw c.in-Gate.is (judged_gate _ _ _ _ c.knows-new-in-Gate.ensures (rw c.as_slice.ensures.value at c.knows_all-found.ensures) c.check-in-Gate.ensures)

@@ -1,13 +1,10 @@
 -- `netlist::brackets::read_names` meets its contract.
 -- Assumes nothing.
-use Prim.Native.Nat.{ℕ, ◌≤◌, ◌<◌}
 use mathlib.Core.Bool.{true, false}
 use mathlib.Core.List.{List, ◌∷◌}
 use mathlib.Core.Logic.{◌⊎◌, inl, inr}
 use mathlib.Core.Path.{◌≡◌, refl, sym, ◌∙◌}
-use native.Mathlib.Omega.{arith}
-use lib.Dec.{eqb}
-use borrow.Author.Tests.{eqb-true, eqb-false}
+use borrow.Author.Tests.{leb-true, leb-false}
 use Rattle.netlist.specs.declared.Mark.{Mark}
 use Rattle.netlist.specs.declared.Mark.TheVariants.{Equals, Open, Other, End}
 use Rattle.netlist.specs.Names.{Letters}
@@ -26,14 +23,6 @@ stops mark (inr (inl e)) word rest = rw e refl
 stops mark (inr (inr (inl e))) word rest = rw e refl
 stops mark (inr (inr (inr e))) word rest = rw e refl
 
--- What the test for room tells.
-
-room : (n : ℕ) → n ≤ 4 → eqb n 4 ≡ false → n < 4
-room n h e = let other = eqb-false n 4 e in omega arith
-
-full : (n : ℕ) → eqb n 4 ≡ true → 4 ≤ n
-full n e = let is = eqb-true n 4 e in omega arith
-
 pub loop-rest-init : goal.loop-rest-init
 loop-rest-init c = names_none _ _ c.new-names.ensures
 
@@ -46,16 +35,22 @@ returns-then-not-is_name c =
 pub loop-rest-preserved : goal.loop-rest-preserved
 loop-rest-preserved c =
     let read = c.read_piece-piece in
-    names_more _ _ _ c.loop-rest.invariant read.result read.ensures (room _ c.is_full.ensures.fits (sym c.is_full.ensures.value ∙ c.loop-rest-test.true))
-    (sym (of_piece _ read.ensures c.is_name.ensures) ∙ c.if-not-is_name.false) c.push.ensures.items c.in-Comma.is
+    names_more _ _ _ c.loop-rest.invariant read.result read.ensures (leb-false 4 _ (sym c.is_full.ensures ∙ c.loop-rest-test.true))
+    (sym (of_piece _ read.ensures c.is_name.ensures) ∙ c.if-not-is_name.false) c.push.ensures c.in-Comma.is
+
+pub returns-then-ended : goal.returns-then-ended
+returns-then-ended c =
+    let read = c.read_piece-piece in
+    names_closed _ _ _ c.loop-rest.invariant read.result read.ensures (leb-false 4 _ (sym c.is_full.ensures ∙ c.loop-rest-test.true))
+    (sym (of_piece _ read.ensures c.is_name.ensures) ∙ c.if-not-is_name.false) c.push.ensures
+    c.in-Close.is true (sym c.if-ended.true ∙ c.ended.ensures)
 
 pub returns-in-Close : goal.returns-in-Close
 returns-in-Close c =
     let read = c.read_piece-piece in
-    c.then_some.ensures
-    ∙ names_closed _ _ _ c.loop-rest.invariant read.result read.ensures (room _ c.is_full.ensures.fits (sym c.is_full.ensures.value ∙ c.loop-rest-test.true))
-    (sym (of_piece _ read.ensures c.is_name.ensures) ∙ c.if-not-is_name.false) c.push.ensures.items
-    c.in-Close.is c.ended.result c.ended.ensures
+    names_closed _ _ _ c.loop-rest.invariant read.result read.ensures (leb-false 4 _ (sym c.is_full.ensures ∙ c.loop-rest-test.true))
+    (sym (of_piece _ read.ensures c.is_name.ensures) ∙ c.if-not-is_name.false) c.push.ensures
+    c.in-Close.is false (sym c.if-ended.false ∙ c.ended.ensures)
 
 pub returns-in-Equals : goal.returns-in-Equals
 returns-in-Equals c =
@@ -64,4 +59,4 @@ returns-in-Equals c =
     (stops read.result.mark c.in-Equals.is _ _)
 
 pub returns : goal.returns
-returns c = names_many _ _ _ c.loop-rest.invariant (full _ (sym c.is_full.ensures.value ∙ c.loop-rest-test.false))
+returns c = names_many _ _ _ c.loop-rest.invariant (leb-true 4 _ (sym c.is_full.ensures ∙ c.loop-rest-test.false))

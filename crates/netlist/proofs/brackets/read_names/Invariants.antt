@@ -1,7 +1,7 @@
 -- `netlist::brackets::read_names` meets its contract.
 -- Assumes nothing.
 use Prim.Native.Nat.{◌-◌}
-use Rattle.arrayvec.specs.ArrayVec.{array_vec_len}
+use lib.ListN.{length}
 use Rattle.netlist.proofs.Bracketed.{NamesSoFar}
 use Rattle.netlist.proofs.brackets.read_names.Given as goal
 
@@ -9,4 +9,4 @@ abbrev pub invariant-loop-rest : goal.invariant-loop-rest
 invariant-loop-rest l = NamesSoFar l.line l.names l.rest
 
 abbrev pub decreases-loop-rest : goal.decreases-loop-rest
-decreases-loop-rest l = 4 - array_vec_len l.names
+decreases-loop-rest l = 4 - length l.names

@@ -34,6 +34,6 @@ pub returns : goal.returns
 returns c =
     let loop = c.loop-at in
     elim c.loop-at-test.branch [
-      | else-loop-at-test w ↦ piece_ended _ loop.word loop.at loop.invariant (omega arith) _ refl refl
-      | then-loop-at-test+then-byte-eq35 w ↦ piece_commented _ loop.word loop.at loop.invariant (omega arith) w.if-byte-eq35.true _ refl refl
+      | else-loop-at-test w ↦ piece_ended _ loop.word loop.at loop.invariant (omega arith) _ refl refl refl
+      | then-loop-at-test+then-byte-eq35 w ↦ piece_commented _ loop.word loop.at loop.invariant (omega arith) w.if-byte-eq35.true _ refl refl refl
     ]
