@@ -1,5 +1,5 @@
-/* Each call on a full block, or on a text of one, on a stack of ZIMGURAV_STACK_BYTES with nothing below it: more would
- * end the program.
+/* Each call on a full block, or on a text of one, and the second maker on inputs that a sort may go deep on, on a stack of
+ * ZIMGURAV_STACK_BYTES with nothing below it: more would end the program.
  * Prints how much of the stack each call used; the first one's is with the dynamic linker's look-up of memset. */
 #define _GNU_SOURCE
 #include <stdlib.h>
@@ -9,12 +9,13 @@
 
 #include "check.h"
 
-enum { NETS = ZIMGURAV_MOST_NETS, INPUTS = ZIMGURAV_MOST_INPUTS, BUDGET = 20, UNUSED = 0xEE };
+enum { NETS = ZIMGURAV_MOST_NETS, INPUTS = ZIMGURAV_MOST_INPUTS, UNORDERED = 33, BUDGET = 20, UNUSED = 0xEE };
 
 /* The longest line has five names of 16 letters, a kind word, and marks with the line's end. */
 enum { LINE = 5 * 16 + 4 + 7 };
 
 static uint8_t file[RECORD * NETS];
+static uint8_t unordered[RECORD * 2 * UNORDERED];
 static uint16_t table[CONTACTS * ZIMGURAV_MOST_NODES];
 static zimgurav_word sheet[WORDS];
 static uint8_t pattern[PATTERN];
@@ -60,6 +61,28 @@ static void make_block(void)
     }
     for (size_t i = 0; i < sizeof table / sizeof *table; i++) {
         table[i] = (uint16_t)(257 * i);
+    }
+}
+
+/* Inputs that are low or rise, each with a buffer whose peak is its own, so that the second maker sorts them by the peaks.
+ * A quicksort that takes medians of few as pivots calls itself ten deep on this order of them. */
+static void make_unordered(void)
+{
+    static const uint8_t ranks[UNORDERED] = {1, 30, 22, 16, 29, 32, 26, 21, 14, 27, 19, 23, 3, 17, 11, 12, 0,
+                                             7, 13, 15, 28, 20, 25, 2, 4, 5, 31, 6, 9, 8, 10, 18, 24};
+
+    for (int net = 0; net < UNORDERED; net++) {
+        uint8_t *const input = &unordered[RECORD * net];
+        uint8_t *const gate = &unordered[RECORD * (UNORDERED + net)];
+        const int peak = 56800 + 100 * ranks[net];
+
+        input[0] = ZIMGURAV_INPUT;
+        input[18] = 9;
+        gate[0] = ZIMGURAV_BUF;
+        gate[1] = gate[2] = gate[3] = gate[12] = gate[13] = 1;
+        gate[4] = (uint8_t)net;
+        gate[14] = (uint8_t)(peak % 256);
+        gate[15] = (uint8_t)(peak / 256);
     }
 }
 
@@ -126,6 +149,11 @@ static void call_bound_order(void)
     zimgurav_bound_order(file, sizeof file, 2, table, sizeof table / sizeof *table, work, sizeof work, order, answer);
 }
 
+static void call_unordered(void)
+{
+    zimgurav_bound_order(unordered, sizeof unordered, 10, table, CONTACTS, work, sizeof work, order, answer);
+}
+
 static void call_bench(void)
 {
     zimgurav_bench((const uint8_t *)text, text_length, list, sizeof list, records, sizeof records, answer);
@@ -175,10 +203,12 @@ int main(void)
     const uint64_t counts[NUMBERS] = {0, NETS, INPUTS};
     const uint64_t count[NUMBERS] = {0, NETS};
     const uint64_t inputs[NUMBERS] = {0, INPUTS};
+    const uint64_t sorted[NUMBERS] = {0, UNORDERED};
     uint8_t *const stack = make_stack();
     int wrong = 0;
 
     make_block();
+    make_unordered();
     make_text();
     wrong += check_call("search", call_search, stack);
     wrong += check_call("simulate", call_simulate, stack);
@@ -189,6 +219,8 @@ int main(void)
     wrong += check_numbers("cone order", answer, inputs);
     wrong += check_call("bound order", call_bound_order, stack);
     wrong += check_numbers("bound order", answer, inputs);
+    wrong += check_call("bound order, inputs out of order", call_unordered, stack);
+    wrong += check_numbers("bound order, inputs out of order", answer, sorted);
     wrong += check_call("bench", call_bench, stack);
     wrong += check_numbers("bench", answer, count);
     return wrong != 0;

@@ -36,7 +36,7 @@ struct Named {
 }
 
 /// All that the search cites of the crates inside which it may not look.
-const CITED: [Named; 11] = [
+const CITED: [Named; 12] = [
     Named {
         module: "evaluation.specs.Evaluation",
         names: &["simulated_sheet", "envelope_sheet"],
@@ -88,6 +88,11 @@ const CITED: [Named; 11] = [
         why: "The struct whose method is an evaluation, called by contract.",
     },
     Named {
+        module: "evaluation::Setting::",
+        names: &["evaluate"],
+        why: "The evaluation, called by contract.",
+    },
+    Named {
         module: "simulator::",
         names: &["evaluate_singles"],
         why: "The simulation of a pattern, called by contract.",
@@ -95,7 +100,7 @@ const CITED: [Named; 11] = [
 ];
 
 /// The abbreviations among them, which open by themselves, and why that shows nothing inside.
-const ABBREVIATIONS: [(&[&str], &str); 4] = [
+const ABBREVIATIONS: [(&[&str], &str); 3] = [
     (
         &[
             "simulated_sheet",
@@ -111,22 +116,13 @@ const ABBREVIATIONS: [(&[&str], &str); 4] = [
         "It opens to `drop_of` and `quiet_tick`, which stay shut.",
     ),
     (
-        &["InputCodes"],
-        "It opens to the bytes of codes, each below 16.",
-    ),
-    (
         &["SinglesEvaluated"],
         "It opens to the record `Evaluated` of the sheet of a pattern.",
     ),
 ];
 
 /// All that the search unfolds, in its proofs and anywhere, of crates other than its own, `cases` and `laws`.
-const UNFOLDED: [Named; 9] = [
-    Named {
-        module: "std.specs.List.Sorted",
-        names: &["IsStrictlySortedBy"],
-        why: "The library's word for a list that rises, as the library's sort leaves it.",
-    },
+const UNFOLDED: [Named; 8] = [
     Named {
         module: "simulator.specs.Simulate",
         names: &["size_checks", "simulate_verdict"],
@@ -144,8 +140,8 @@ const UNFOLDED: [Named; 9] = [
     },
     Named {
         module: "operation.specs.SplitOrder",
-        names: &["list_bytes", "times_named"],
-        why: "The bytes that a maker returns its list in, and how often a list names a net.",
+        names: &["list_bytes"],
+        why: "The bytes that a maker returns its list in.",
     },
     Named {
         module: "block.specs.Block",
@@ -320,11 +316,60 @@ fn opened(text: &str) -> Vec<(String, String)> {
     opened
 }
 
+/// The public functions of the `impl` blocks of a type, from the code of the crate that has it.
+fn methods_of(owner: &str, kind: &str) -> BTreeSet<String> {
+    let mut methods = BTreeSet::new();
+    for file in files(Path::new("crates").join(owner).join("src"), &["rt"]) {
+        let code = code(&text(&file));
+        for block in code.split("\nimpl").skip(1) {
+            let (head, body) = block.split_once('{').expect("a block after `impl`");
+            if !head
+                .split(|character| !in_name(character))
+                .any(|word| word == kind)
+            {
+                continue;
+            }
+            let body = body.split("\n}").next().unwrap_or(body);
+            let public = body
+                .lines()
+                .filter_map(|line| line.trim_start().strip_prefix("pub fn "));
+            let names = public.filter_map(|rest| rest.split(['(', '<']).next());
+            methods.extend(names.map(str::to_string));
+        }
+    }
+    methods
+}
+
+/// The methods that a text calls of the types that it names of our crates, as `crate::Type::` and the name.
+fn methods_called(text: &str, crates: &[&str]) -> Vec<(String, String)> {
+    let code = code(text);
+    let named: BTreeSet<(String, String)> =
+        code.lines().flat_map(|line| calls(line, crates)).collect();
+    let mut called = Vec::new();
+    for (module, kind) in named {
+        if !kind.starts_with(char::is_uppercase) {
+            continue;
+        }
+        for method in methods_of(owner(&module), &kind) {
+            let is_called = [format!(".{method}("), format!("{kind}::{method}(")];
+            if is_called.iter().any(|call| code.contains(call.as_str())) {
+                called.push((format!("{module}{kind}::"), method));
+            }
+        }
+    }
+    called
+}
+
 /// Every name of our crates that a crate cites, by the file in which it does.
 fn cited_by(name: &str, crates: &[&str]) -> BTreeMap<(String, String), String> {
     let mut cited = BTreeMap::new();
     for file in files(Path::new("crates").join(name), &["rt", "antt"]) {
-        for citation in citations(&text(&file), crates) {
+        let text = text(&file);
+        let mut citations = citations(&text, crates);
+        if file.extension().is_some_and(|kind| kind == "rt") {
+            citations.extend(methods_called(&text, crates));
+        }
+        for citation in citations {
             cited.insert(citation, file.display().to_string());
         }
     }
