@@ -12,8 +12,7 @@ use Rattle.std.specs.Prelude.{is_some}
 use Rattle.laws.proofs.Tests.{and_left, and_right}
 use Rattle.netlist.specs.Names.{Letters, is_name, same, known}
 use Rattle.netlist.specs.Forms.{Form, empty, input, output, gate, none, line_form, forms_of, form_right, given_by, names_of}
-use Rattle.netlist.specs.Kept.{FirstLine, name_kept, same_name, line_kept}
-use Rattle.netlist.specs.declared.Line.{Line}
+use Rattle.netlist.specs.Kept.{FirstLine, name_kept, same_name, KeptLine, line_kept}
 use Rattle.netlist.specs.declared.Name.{Name}
 use Rattle.netlist.proofs.Packing.{kept_same}
 use Rattle.netlist.proofs.KnownWords.{same_turned, known_append}
@@ -54,7 +53,7 @@ pub none_left : {text : List ℕ} (n : ℕ) → text ≡ [] → take n (forms_of
 none_left n e = rw (no_forms e) (take-nil n)
 
 module _ {text line rest : List ℕ} (first : FirstLine text line rest) (lines passed : ℕ) (h : passed < lines) (name : Name)
-    {read : Option Line} {b : Bool}
+    {read : Option KeptLine} {b : Bool}
     (is : read ≡ line_kept (line_form line)) (tested : b ≡ gives read name) where
   abbrev left : List Form
   left = take (lines - (passed + 1)) (forms_of rest)

@@ -11,9 +11,7 @@ use Rattle.block.specs.declared.verdict.Reason.TheVariants.{WrongLine, WrongName
 use Rattle.block.proofs.Verdicts.{judged, refused_here, judged_later}
 use Rattle.netlist.specs.Names.{Letters, is_name, known, all_known}
 use Rattle.netlist.specs.Forms.{Form, empty, input, output, gate, none, form_right, names_of}
-use Rattle.netlist.specs.Kept.{right_kept}
-use Rattle.netlist.specs.declared.GateLine.{GateLine}
-use Rattle.netlist.specs.declared.Line.TheVariants.{Nothing, Input, Gate}
+use Rattle.netlist.specs.Kept.{KeptGate, Nothing, Input, Gate, right_kept}
 use Rattle.netlist.specs.declared.Name.{Name}
 use Rattle.netlist.proofs.RightGates.{gate_named, gate_pins}
 use Rattle.bench.specs.Checks.{names_right, line_checks}
@@ -71,7 +69,7 @@ module _ (forms : List Form) (kept : List Name) (number : ℕ) (gates : Bool) wh
         (λ word proper named.
         input_judged number (names ++ names_of forms) gates word proper first e (ap not (one names word held right proper named)) second)
 
-  pub judged_gate : {given : GateLine} {again found : Bool} {v : Verdict} → KnownIn forms kept given.name again
+  pub judged_gate : {given : KeptGate} {again found : Bool} {v : Verdict} → KnownIn forms kept given.name again
       → AllKnownIn forms kept given.pins found → v ≡ verdict (check WrongName number (not again && found) ∷ [])
       → JudgedIn forms kept (Gate given) number gates v
   judged_gate {v = v} one all first names form held right is formed =

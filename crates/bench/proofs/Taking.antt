@@ -15,9 +15,7 @@ use Rattle.block.specs.declared.verdict.Reason.TheVariants.{WrongLine, WrongName
 use Rattle.block.proofs.Verdicts.{apart}
 use Rattle.netlist.specs.Names.{Letters, is_name, known, all_known}
 use Rattle.netlist.specs.Forms.{Form, empty, input, output, gate, none, form_right, given_by, is_gate}
-use Rattle.netlist.specs.Kept.{name_kept, gate_kept, right_kept}
-use Rattle.netlist.specs.declared.GateLine.{GateLine}
-use Rattle.netlist.specs.declared.Line.TheVariants.{Nothing}
+use Rattle.netlist.specs.Kept.{name_kept, KeptGate, gate_kept, Nothing, right_kept}
 use Rattle.netlist.specs.declared.Name.{Name}
 use Rattle.netlist.proofs.RightGates.{gate_named, gate_pins}
 use Rattle.bench.specs.declared.Table.{Table}
@@ -71,7 +69,7 @@ module _ {name : Name} (number : ℕ) (before : Table) {v : Verdict}
 
 -- The line of a gate, from the place of its name and the nets of its pins.
 
-module _ (before : Table) {given : GateLine} (name word : Letters) (pins : List Letters)
+module _ (before : Table) {given : KeptGate} (name word : Letters) (pins : List Letters)
     (fits : form_right (gate name word pins) ≡ true) (same : given ≡ gate_kept name word pins) (names : List Letters)
     (held : Held names (held_names before)) where
   known_is : {place : Option ℕ} → Placed (held_names before) given.name place → is_some place ≡ known name names
@@ -82,7 +80,7 @@ module _ (before : Table) {given : GateLine} (name word : Letters) (pins : List 
   nets_are placed = placed names pins held (gate_pins name word pins fits) (ap (λ g. g.pins) same)
 
 -- A pin is unknown.
-pub gate_unknown : {given : GateLine} {number : ℕ} {list : List ℕ} {before after : Table} {nets : Option (List ℕ)}
+pub gate_unknown : {given : KeptGate} {number : ℕ} {list : List ℕ} {before after : Table} {nets : Option (List ℕ)}
     → PinsPlaced (held_names before) given.pins nets → nets ≡ None → GateTaken given number list before after (Err (refusal WrongName number))
 unfolding verdict
 gate_unknown {number = number} {before = before} placed e name word pins fits same names held =
@@ -94,7 +92,7 @@ gate_unknown {number = number} {before = before} placed e name word pins fits sa
     }
 
 -- All pins are known: the check of the name decides.
-module _ {given : GateLine} (number : ℕ) (before : Table) {place : Option ℕ} {nets : Option (List ℕ)} {found : List ℕ}
+module _ {given : KeptGate} (number : ℕ) (before : Table) {place : Option ℕ} {nets : Option (List ℕ)} {found : List ℕ}
     {again : Bool} {v : Verdict} (placed : PinsPlaced (held_names before) given.pins nets) (all : nets ≡ Some found)
     (named : Placed (held_names before) given.name place) (is : again ≡ is_some place)
     (made : v ≡ verdict (check WrongName number (not again) ∷ [])) where

@@ -6,10 +6,7 @@ use Rattle.block.specs.declared.verdict.Refusal.{Refusal}
 use Rattle.operation.specs.Operation.{answer_after}
 use Rattle.netlist.specs.Names.{Letters, is_name, are_names, known, all_known}
 use Rattle.netlist.specs.Forms.{Form, input, gate, forms_of, form_right, given_by, names_of, is_gate}
-use Rattle.netlist.specs.Kept.{name_kept, gate_kept, same_name, right_kept}
-use Rattle.netlist.specs.declared.GateLine.{GateLine}
-use Rattle.netlist.specs.declared.Line.{Line}
-use Rattle.netlist.specs.declared.Line.TheVariants as line
+use Rattle.netlist.specs.Kept.{name_kept, gate_kept, same_name, right_kept, KeptGate, KeptLine, Nothing, Input, Gate}
 use Rattle.netlist.specs.declared.Name.{Name}
 use Rattle.bench.specs.declared.Earlier.{Earlier}
 use Rattle.bench.specs.declared.Progress.{Progress}
@@ -62,7 +59,7 @@ abbrev pub InputTaken : Name → ℕ → Table → Table → Verdict → Type 0
 InputTaken name number before after v =
     (word : Letters) (list : List ℕ) → is_name word ≡ true → name ≡ name_kept word → LineRead (input word) number list before after v
 
-abbrev pub GateTaken : GateLine → ℕ → List ℕ → Table → Table → Verdict → Type 0
+abbrev pub GateTaken : KeptGate → ℕ → List ℕ → Table → Table → Verdict → Type 0
 GateTaken given number list before after v =
     (name word : Letters) (pins : List Letters) → form_right (gate name word pins) ≡ true → given ≡ gate_kept name word pins
     → LineRead (gate name word pins) number list before after v
@@ -87,11 +84,11 @@ all_right [] = true
 all_right (form ∷ rest) = form_right form && all_right rest
 
 -- Whether a line as it is kept gives a name.
-abbrev pub gives : Option Line → Name → Bool
+abbrev pub gives : Option KeptLine → Name → Bool
 gives None name = false
-gives (Some line.Nothing) name = false
-gives (Some (line.Input given)) name = same_name given name
-gives (Some (line.Gate given)) name = same_name given.name name
+gives (Some Nothing) name = false
+gives (Some (Input given)) name = same_name given name
+gives (Some (Gate given)) name = same_name given.name name
 
 -- Whether one of some lines that are right gives a name.
 abbrev pub GivenIn : List Form → Name → Bool → Type 0
@@ -112,7 +109,7 @@ AllKnownIn forms kept pins r =
     (names : List Letters) (words : List Letters) → Held names kept → all_right forms ≡ true → are_names words ≡ true
     → pins ≡ map name_kept words → r ≡ all_known words (names ++ names_of forms)
 
-abbrev pub JudgedIn : List Form → List Name → Line → ℕ → Bool → Verdict → Type 0
+abbrev pub JudgedIn : List Form → List Name → KeptLine → ℕ → Bool → Verdict → Type 0
 JudgedIn forms kept given number gates r =
     (names : List Letters) (form : Form) → Held names kept → all_right forms ≡ true → given ≡ right_kept form
     → form_right form ≡ true → r ≡ verdict (line_checks number (names ++ names_of forms) gates form)

@@ -1,5 +1,6 @@
 // Records made from lines.
 ghost use Rattle.std.specs.Prelude.{◌≡◌, ◌/◌, ◌%◌, ◌≤◌, ◌∷◌, [], length, get_or};
+ghost use Rattle.netlist.specs.Kept.{names_in};
 ghost use Rattle.bench.specs.Records.{input_record, gate_record};
 
 use netlist::GateLine;
@@ -21,7 +22,7 @@ fn bytes_of(net: u16) -> [u8; 2]
 // The record of a gate, with the row of its kind.
 pub fn gate_record(list: &[u8; 64], gate: &GateLine, nets: [u16; 4]) -> [u8; 20]
     requires { (2 ≤ gate.now.kind) × (gate.now.kind ≤ 9) }
-    ensures { result ≡ gate_record list.now gate.now.kind (length gate.now.pins) (λ p. get_or nets p 0) }
+    ensures { result ≡ gate_record list.now gate.now.kind (length (names_in gate.now.pins)) (λ p. get_or nets p 0) }
 {
     let row = 8 * (gate.kind - 2);
     let first = bytes_of(nets[0]);

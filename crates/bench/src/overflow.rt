@@ -1,7 +1,8 @@
 // The lines after the 1,024th record. No table has their names: they are looked up in the text itself. A text in which one of them gives
 // a record is refused in any case.
-ghost use Rattle.std.specs.Prelude.{◌≡◌};
+ghost use Rattle.std.specs.Prelude.{◌≡◌, option_map};
 ghost use Rattle.netlist.specs.Forms.{forms_of};
+ghost use Rattle.netlist.specs.Kept.{line_in};
 ghost use Rattle.bench.specs.Held.{gives, forms_before, GivenIn, KnownIn, AllKnownIn, JudgedIn, JudgedLater};
 
 use super::lookup;
@@ -11,7 +12,7 @@ use netlist::{Line, Name};
 
 // Whether a line gives a name.
 fn gives(line: Option<Line>, name: Name) -> bool
-    ensures { result ≡ gives line name }
+    ensures { result ≡ gives (option_map line_in line) name }
 {
     match line {
         Some(Line::Input(given)) => given == name,
@@ -59,7 +60,7 @@ impl Earlier<'_> {
 
     // Judges a line that has passed check 17 by itself.
     fn judge(&self, line: &Line, number: usize, gates: bool) -> Result<(), Refusal>
-        ensures { JudgedIn (forms_before self.now) self.now.names.now line.now number gates result }
+        ensures { JudgedIn (forms_before self.now) self.now.names.now (line_in line.now) number gates result }
     {
         let place = number as u64;
         match line {

@@ -1,6 +1,7 @@
 // The lines of a text, from the first on.
 ghost use Rattle.std.specs.Prelude.{◌≡◌, ◌≤◌, ◌<◌, false, length};
 ghost use Rattle.netlist.specs.Forms.{line_form};
+ghost use Rattle.netlist.specs.Kept.{gate_in};
 ghost use Rattle.bench.specs.Held.{InputTaken, GateTaken, LineRead, Begun, TextTaken};
 
 use super::{lookup, making, overflow};
@@ -25,7 +26,7 @@ impl Table {
     // Takes the line of a gate that has passed check 17 by itself.
     fn take_gate(&mut self, gate: &GateLine, number: usize, list: &[u8; 64]) -> Result<(), Refusal>
         requires { (self.old.count < 1024) × (2 ≤ gate.now.kind) × (gate.now.kind ≤ 9) }
-        ensures { GateTaken gate.now number list.now self.old self.new result }
+        ensures { GateTaken (gate_in gate.now) number list.now self.old self.new result }
     {
         let place = number as u64;
         let unknown = Refusal {

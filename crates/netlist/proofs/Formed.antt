@@ -11,20 +11,26 @@ use borrow.Author.Tests.{leb-false, eqb-true}
 use borrow.Table.Steps.{cases}
 use Rattle.std.proofs.Common.{Some, None}
 use Rattle.std.specs.Bool.{then_some}
+use Rattle.std.specs.Prelude.{option_map}
 use Rattle.std.proofs.lemmas.List.{length-map}
 use Rattle.laws.specs.Ascii.{ascii}
 use Rattle.laws.proofs.Tests.{and_left, and_right, and_first_fails, and_second_fails}
 use Rattle.block.specs.Refusals.{within}
-use Rattle.netlist.specs.declared.Line.TheVariants.{Nothing, Input, Gate}
+use Rattle.netlist.specs.declared.Line.{Line}
 use Rattle.netlist.specs.declared.Mark.TheVariants.{Open}
 use Rattle.netlist.specs.declared.Name.{Name}
 use Rattle.netlist.specs.Names.{Letters, is_letter_or_digit, lettered, is_name, are_names, same}
 use Rattle.netlist.specs.Forms.{Part, part, closed, bracketed, Form, gate, none, declaring, declared, assigned, form_right}
 use Rattle.netlist.specs.Forms.{kind_named, pins_allowed}
 use Rattle.netlist.specs.Kept.{number_of, short_number, name_kept, brackets_right, brackets_kept}
-use Rattle.netlist.specs.Kept.{kind_kept, names_kept, line_kept}
+use Rattle.netlist.specs.Kept.{kind_kept, names_kept, line_kept, Nothing, Input, Gate, line_in}
 use Rattle.netlist.proofs.Packing.{short_same}
 use Rattle.netlist.proofs.RightGates.{kind_low, pins_few}
+
+-- A line that is given where a test says so is kept there.
+pub kept_where : (b : Bool) (given : Line) → option_map line_in (then_some b given) ≡ then_some b (line_in given)
+kept_where true given = refl
+kept_where false given = refl
 
 -- Names in brackets that are right.
 record RightBrackets (parts : List Part) (names : List Name) : Type 0 where

@@ -2,9 +2,10 @@
 use Rattle.std.specs.Prelude.{ℕ, ◌+◌, ◌-◌, ◌*◌, ◌<◌, min, Bool, true, false, cond, ◌&&◌, Option, Some, None, List, [], ◌∷◌, map, reverse, ◌≡◌, leb, eqb, length, take, drop}
 use Rattle.netlist.specs.declared.GateLine.{GateLine}
 use Rattle.netlist.specs.declared.Line.{Line}
-use Rattle.netlist.specs.declared.Line.TheVariants.{Nothing, Input, Gate}
+use Rattle.netlist.specs.declared.Line.TheVariants as line
 use Rattle.netlist.specs.declared.Name.{Name}
 use Rattle.netlist.specs.declared.Piece.{Piece}
+use Rattle.netlist.specs.declared.places.Names.{Names}
 use Rattle.netlist.specs.declared.Word.{Word}
 use Rattle.netlist.specs.Lines.{lines_of, content}
 use Rattle.netlist.specs.Names.{Letters, are_names, lettered}
@@ -58,31 +59,54 @@ unfoldable pub brackets_kept : List Part → Option (List Name)
 brackets_kept parts = cond (brackets_right parts) (Some (names_kept (bracketed parts))) None
 
 -- A gate is kept with its kind, its name and its pins.
-abbrev pub gate_kept : Letters → Letters → List Letters → GateLine
+pub record KeptGate : Type 0 where
+  pub kind : ℕ
+  pub name : Name
+  pub pins : List Name
+
+abbrev pub gate_kept : Letters → Letters → List Letters → KeptGate
 gate_kept name word pins = record { kind = kind_named word; name = name_kept name; pins = names_kept pins }
 
--- A line, if it passes check 17 by itself: by the record that it gives.
-abbrev pub right_kept : Form → Line
+-- A line is kept, if it passes check 17 by itself, by the record that it gives: none, an input's or a gate's.
+pub data KeptLine : Type 0 where
+  Nothing : KeptLine
+  Input : Name → KeptLine
+  Gate : KeptGate → KeptLine
+
+abbrev pub right_kept : Form → KeptLine
 right_kept empty = Nothing
 right_kept (input name) = Input (name_kept name)
 right_kept (output name) = Nothing
 right_kept (gate name word pins) = Gate (gate_kept name word pins)
 right_kept none = Nothing
 
-unfoldable pub line_kept : Form → Option Line
+unfoldable pub line_kept : Form → Option KeptLine
 line_kept form = cond (form_right form) (Some (right_kept form)) None
+
+-- What stands in the code's values: names, in the places in use, a gate with these as its pins, and a line.
+
+abbrev pub names_in : Names → List Name
+names_in names = take names.used names.places
+
+abbrev pub gate_in : GateLine → KeptGate
+gate_in given = record { kind = given.kind; name = given.name; pins = names_in given.pins }
+
+abbrev pub line_in : Line → KeptLine
+line_in line.Nothing = Nothing
+line_in (line.Input name) = Input name
+line_in (line.Gate given) = Gate (gate_in given)
 
 -- The name that a line gives to a record, if any, and whether it is a gate.
 
 abbrev pub line_name : Line → Option Name
-line_name Nothing = None
-line_name (Input name) = Some name
-line_name (Gate given) = Some given.name
+line_name line.Nothing = None
+line_name (line.Input name) = Some name
+line_name (line.Gate given) = Some given.name
 
 abbrev pub line_is_gate : Line → Bool
-line_is_gate Nothing = false
-line_is_gate (Input name) = false
-line_is_gate (Gate given) = true
+line_is_gate line.Nothing = false
+line_is_gate (line.Input name) = false
+line_is_gate (line.Gate given) = true
 
 -- What a text ends with.
 abbrev pub EndOf : List ℕ → List ℕ → Type 0

@@ -2,5 +2,4 @@ pub mod Lines
 pub mod Names
 pub mod Forms
 pub mod Kept
-pub mod Places
 pub mod Written

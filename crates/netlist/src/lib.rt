@@ -1,17 +1,18 @@
 // Bench text: the line, its words and names, and the form that it has.
 #![tactic(auto)]
 
-ghost use Rattle.std.specs.Prelude.{[], MatchOption, ◌≡◌, ◌≤◌, ◌<◌, ◌==◌, length, drop};
+ghost use Rattle.std.specs.Prelude.{[], MatchOption, option_map, ◌≡◌, ◌==◌};
 ghost use Rattle.std.specs.List.{position};
 ghost use Rattle.netlist.specs.Lines.{content};
 ghost use Rattle.netlist.specs.Forms.{parts_of, declared, assigned, line_form};
-ghost use Rattle.netlist.specs.Kept.{FirstLine, line_kept, line_name, line_is_gate, OfLetters};
-
-use std::marker::Model;
+ghost use Rattle.netlist.specs.Kept.{FirstLine, line_in, line_kept, line_name, line_is_gate, OfLetters};
 
 mod brackets;
 mod pieces;
+mod places;
 mod words;
+
+pub use places::Names;
 
 // A name as two numbers: its first eight letters, and the next eight. The default is no name.
 #[derive(Clone, Copy, Default, PartialEq, Eq)]
@@ -44,33 +45,6 @@ pub struct Piece<'a> {
     pub word: Word,
     pub mark: Mark,
     pub rest: &'a [u8],
-}
-
-// Names in brackets, four at most: they stand in the first of four places, and no name in the others.
-#[derive(Clone, Copy)]
-pub struct Names {
-    places: [Name; 4],
-    used: usize,
-}
-
-impl Model for Names {
-    ghost use Rattle.std.specs.Prelude.{List, take, length};
-    ghost use Rattle.netlist.specs.declared.Name.{Name};
-
-    ghost Value = { List Name };
-
-    ghost use Rattle.netlist.specs.Places.{four_places, FourPlaces, placed_again, counted};
-
-    ghost view = { λ a. take a.used a.places };
-
-    ghost invariant = { λ a. FourPlaces a.places a.used };
-
-    ghost inverse = { λ names. record { places = four_places names; used = length names } };
-
-    ghost inverse_ok = { λ a h i. record {
-      places = placed_again a.places a.used h i;
-      used = counted a.places a.used h i;
-    } };
 }
 
 // A gate as its line has it: its kind, as document 01 numbers kinds, its name and its pins' names, as many as its pin count.
@@ -132,7 +106,7 @@ pub fn split_line(text: &[u8]) -> Option<(&[u8], &[u8])>
 
 // INPUT or OUTPUT, by the number of the word, from the word before the bracket and what is left of the line after it.
 fn declaration(word: Word, rest: &[u8]) -> Option<Line>
-    ensures { OfLetters word (λ letters. result ≡ line_kept (declared letters (parts_of (content rest.now)))) }
+    ensures { OfLetters word (λ letters. option_map line_in result ≡ line_kept (declared letters (parts_of (content rest.now)))) }
 {
     let names = brackets::read_names(rest)?;
     if names.len() != 1 {
@@ -147,7 +121,7 @@ fn declaration(word: Word, rest: &[u8]) -> Option<Line>
 
 // A gate, from its name and what is left of the line after the `=`.
 fn assignment(name: Word, rest: &[u8]) -> Option<Line>
-    ensures { OfLetters name (λ letters. result ≡ line_kept (assigned letters (parts_of (content rest.now)))) }
+    ensures { OfLetters name (λ letters. option_map line_in result ≡ line_kept (assigned letters (parts_of (content rest.now)))) }
 {
     let piece = pieces::read_piece(rest);
     let Mark::Open = piece.mark else {
@@ -165,7 +139,7 @@ fn assignment(name: Word, rest: &[u8]) -> Option<Line>
 
 // Reads a line: none where it fits no form.
 pub fn read_line(line: &[u8]) -> Option<Line>
-    ensures { result ≡ line_kept (line_form line.now) }
+    ensures { option_map line_in result ≡ line_kept (line_form line.now) }
 {
     let first = pieces::read_piece(line);
     match first.mark {

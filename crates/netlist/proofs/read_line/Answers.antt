@@ -6,13 +6,14 @@ use mathlib.Core.Logic.{◌⊎◌, inl, inr}
 use mathlib.Core.Path.{◌≡◌, refl, sym, ap, ◌∙◌}
 use Rattle.std.proofs.Common.{None}
 use Rattle.std.specs.Bool.{then_some}
-use Rattle.netlist.specs.declared.Line.TheVariants.{Nothing}
+use Rattle.std.specs.Prelude.{option_map}
 use Rattle.netlist.specs.declared.Mark.{Mark}
 use Rattle.netlist.specs.declared.Mark.TheVariants.{Equals, Open, Comma, Close, Other}
 use Rattle.netlist.specs.Names.{Letters}
 use Rattle.netlist.specs.Forms.{Part, part, is_empty, empty, none, form_of, line_form, form_right}
-use Rattle.netlist.specs.Kept.{line_kept}
+use Rattle.netlist.specs.Kept.{line_kept, Nothing, line_in}
 use Rattle.netlist.proofs.Parts.{of_piece, piece_parts, kept_empty}
+use Rattle.netlist.proofs.Formed.{kept_where}
 use Rattle.netlist.proofs.read_line.Goals as goal
 
 -- A line that ends after its first word.
@@ -34,7 +35,7 @@ unfolding line_form form_of
 returns-in-End c =
     let piece = c.read_piece-first in
     let letters = piece.ensures.letters in
-    c.then_some.ensures
+    ap (option_map line_in) c.then_some.ensures ∙ kept_where _ _
     ∙ rw (
       kept_empty letters piece.result.word piece.ensures.word,
       piece.ensures.is,
