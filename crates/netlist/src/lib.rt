@@ -87,6 +87,8 @@ impl Line {
 }
 
 // Where the first line of a text ends, if a byte 10 ends it.
+// Not put into its caller, where the loop would count along where the next line starts, an instruction more for each byte.
+#[inline(never)]
 fn first_end(text: &[u8]) -> Option<usize>
     ensures { result ≡ position (λ byte. byte == 10) text.now }
 {
