@@ -33,6 +33,8 @@ pub fn read_names(line: &[u8]) -> Option<Names>
         rest = piece.rest;
         match piece.mark {
             Mark::Comma => {}
+            // Form kept: it was tried and misses a bar of speed: `then_some` copies the names, and Bench took a tenth more instructions on
+            // lines of OUTPUT.
             Mark::Close => {
                 if ended(rest) {
                     return Some(names);
