@@ -1,8 +1,8 @@
 -- Laws of lines as they are kept: which of them are right, and what code reads off a right one.
 -- Assumes nothing.
-use mathlib.Core.Bool.{Bool, true, false}
+use mathlib.Core.Bool.{true, false}
 use mathlib.Core.List.{List}
-use mathlib.Core.Path.{◌≡◌, refl, ap, sym, ◌∙◌}
+use mathlib.Core.Path.{◌≡◌, refl, sym, ◌∙◌}
 use lib.Dec.{leb}
 use lib.ListN.{length}
 use borrow.Table.Steps.{cases}
@@ -11,9 +11,7 @@ use Rattle.std.specs.Prelude.{is_some}
 use Rattle.netlist.specs.Names.{Letters, is_name}
 use Rattle.netlist.specs.Forms.{Form, empty, input, output, gate, none, form_right, given_by, is_gate}
 use Rattle.netlist.specs.Kept.{name_kept, KeptGate, gate_kept, KeptLine, Nothing, Input, Gate, right_kept, line_kept}
-use Rattle.netlist.specs.Kept.{line_in, line_name, line_is_gate}
-use Rattle.netlist.specs.declared.Line.{Line}
-use Rattle.netlist.specs.declared.Line.TheVariants as line
+use Rattle.netlist.specs.Kept.{line_name, line_is_gate}
 use Rattle.netlist.specs.declared.Name.{Name}
 
 -- A line is kept where its form is right, and as that form is.
@@ -31,37 +29,22 @@ line_right form {line = line} kept some =
     let is : Some line ≡ line_kept form = sym some ∙ kept in
     cases (form_right form) (λ t. let told = rw t at is in (t, cc)) (λ t. let told = rw t at is in cc)
 
--- Whether a line gives a record, and whether it is a gate: what is kept of it tells both.
+-- Whether a line gives a record, and whether it is a gate.
 
-abbrev gives_record : KeptLine → Bool
-gives_record Nothing = false
-gives_record (Input name) = true
-gives_record (Gate given) = true
-
-abbrev is_kept_gate : KeptLine → Bool
-is_kept_gate Nothing = false
-is_kept_gate (Input name) = false
-is_kept_gate (Gate given) = true
-
-tested : (given : Line) → (is_some (line_name given) ≡ gives_record (line_in given)) × (line_is_gate given ≡ is_kept_gate (line_in given))
-tested line.Nothing = (refl, refl)
-tested (line.Input name) = (refl, refl)
-tested (line.Gate given) = (refl, refl)
-
-of_form : (form : Form) → (gives_record (right_kept form) ≡ leb 1 (length (given_by form))) × (is_kept_gate (right_kept form) ≡ is_gate form)
+pub gives_lem : (form : Form) → is_some (line_name (right_kept form)) ≡ leb 1 (length (given_by form))
 unfolding given_by
-of_form empty = (refl, refl)
-of_form (input name) = (refl, refl)
-of_form (output name) = (refl, refl)
-of_form (gate name word pins) = (refl, refl)
-of_form none = (refl, refl)
+gives_lem empty = refl
+gives_lem (input name) = refl
+gives_lem (output name) = refl
+gives_lem (gate name word pins) = refl
+gives_lem none = refl
 
-module _ (form : Form) (given : Line) (is : line_in given ≡ right_kept form) where
-  pub gives_lem : is_some (line_name given) ≡ leb 1 (length (given_by form))
-  gives_lem = (tested given).0 ∙ ap gives_record is ∙ (of_form form).0
-
-  pub gate_lem : line_is_gate given ≡ is_gate form
-  gate_lem = (tested given).1 ∙ ap is_kept_gate is ∙ (of_form form).1
+pub gate_lem : (form : Form) → line_is_gate (right_kept form) ≡ is_gate form
+gate_lem empty = refl
+gate_lem (input name) = refl
+gate_lem (output name) = refl
+gate_lem (gate name word pins) = refl
+gate_lem none = refl
 
 -- The forms of the lines that give a record.
 pub data Giving : Form → Type 0 where

@@ -20,8 +20,7 @@ use Rattle.block.proofs.Verdicts.{all_passed}
 use Rattle.operation.specs.Operation.{answer_after}
 use Rattle.netlist.specs.Names.{Letters}
 use Rattle.netlist.specs.Forms.{Form, line_form, forms_of, form_right, given_by, names_of, is_gate}
-use Rattle.netlist.specs.Kept.{FirstLine, KeptLine, right_kept, line_kept, line_in, line_name, line_is_gate}
-use Rattle.netlist.specs.declared.Line.{Line}
+use Rattle.netlist.specs.Kept.{FirstLine, KeptLine, right_kept, line_kept, line_name, line_is_gate}
 use Rattle.netlist.specs.declared.Name.{Name}
 use Rattle.bench.specs.Checks.{line_checks, lines_from}
 use Rattle.bench.specs.Held.{Held, all_right, JudgedIn, JudgedLater}
@@ -104,12 +103,12 @@ module _ {text : List ℕ} {kept : List Name} {number : ℕ} {gates : Bool} {res
         answered (sym (by_left names held (forms_at here)
         ∙ lines_refused _ _ _ form (forms_of next) _ (sym (wrong_line_lem (number + passed) (names ++ names_of j.before) after form wrong))))
 
-    module _ (line : Line) {v : Verdict} (some : read ≡ Some (line_in line))
-        (judge : JudgedIn (take passed (forms_of text)) kept (line_in line) (number + passed) after v) where
+    module _ {line : KeptLine} {v : Verdict} (some : read ≡ Some line)
+        (judge : JudgedIn (take passed (forms_of text)) kept line (number + passed) after v) where
       formed : form_right form ≡ true
       formed = (line_right form is some).0
 
-      as_kept : line_in line ≡ right_kept form
+      as_kept : line ≡ right_kept form
       as_kept = (line_right form is some).1
 
       line_judged : (names : List Letters) → Held names kept
@@ -117,8 +116,8 @@ module _ {text : List ℕ} {kept : List Name} {number : ℕ} {gates : Bool} {res
       line_judged names held =
           let first : take passed (forms_of text) ≡ j.before =
           ap (take passed) j.split ∙ take_at j.before (forms_of rest) passed j.counted in
-          let judged : JudgedIn j.before kept (line_in line) (number + passed) after v =
-          subst (λ forms. JudgedIn forms kept (line_in line) (number + passed) after v) first judge in
+          let judged : JudgedIn j.before kept line (number + passed) after v =
+          subst (λ forms. JudgedIn forms kept line (number + passed) after v) first judge in
           judged names form held j.right as_kept formed
 
       pub line_refused : {r : Refusal} → v ≡ Err r → JudgedLater (forms_of text) kept number gates (Err r)
@@ -129,8 +128,9 @@ module _ {text : List ℕ} {kept : List Name} {number : ℕ} {gates : Bool} {res
           → LinesJudged text kept number gates next (passed + 1) (after || line_is_gate line)
           (more || is_some (line_name line))
       judged_next e =
-          let gate : line_is_gate line ≡ is_gate form = gate_lem form line as_kept in
-          let given : is_some (line_name line) ≡ leb 1 (length (given_by form)) = gives_lem form line as_kept in
+          let gate : line_is_gate line ≡ is_gate form = ap line_is_gate as_kept ∙ gate_lem form in
+          let given : is_some (line_name line) ≡ leb 1 (length (given_by form)) =
+          ap (λ l. is_some (line_name l)) as_kept ∙ gives_lem form in
           let number_next : number + (passed + 1) ≡ number + passed + 1 = omega arith in
           let names_are = names_more j.before form in
           let counted_on = j.counted_on in

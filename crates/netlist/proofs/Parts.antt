@@ -22,7 +22,7 @@ use Rattle.netlist.specs.declared.Word.{Word}
 use Rattle.netlist.specs.Lines.{lines_of, started_by, is_blank, uncommented, without_blanks, content}
 use Rattle.netlist.specs.Names.{Letters, is_letter_or_digit, lettered}
 use Rattle.netlist.specs.Forms.{Part, part, parts_of, mark_of, begun_by, is_empty, is_end}
-use Rattle.netlist.specs.Kept.{word_kept, OfLetters, EndOf, PieceRead}
+use Rattle.netlist.specs.Kept.{word_kept, OfLetters, EndOf, PieceRead, PieceSplit}
 use Rattle.netlist.proofs.Packing.{first_proper, rest_proper, kept_none}
 
 -- How many bytes come before the first byte 10, all of them where there is none.
@@ -138,31 +138,35 @@ piece_begun line word e = record { letters = []; kept = kept_none word e; proper
 -- The piece that the letters so far make with the first of the parts that are left.
 piece_read : (line : List ℕ) (at : ℕ) (piece : Piece) (rest : List Part) → PieceSoFar line piece.word at
     → parts_from line at ≡ part [] piece.mark ∷ rest
-    → (is_end piece.mark ≡ false → rest ≡ parts_in piece.rest.now) → EndOf line piece.rest.now → PieceRead line piece
-piece_read line at piece rest s e goes_on ends = record {
+    → (is_end piece.mark ≡ false → rest ≡ parts_in piece.rest.now) → PieceRead line piece
+piece_read line at piece rest s e goes_on = record {
   letters = s.letters;
   rest = rest;
   is = s.goes_on ∙ ap (begun_with s.letters) e ∙ ap (λ letters. part letters piece.mark ∷ rest) (append-nil s.letters);
   word = s.kept;
   proper = s.proper;
   goes_on = goes_on;
-  ends = ends;
 }
 
 -- What one byte more makes of a piece.
 module _ (line : List ℕ) (word : Word) (at : ℕ) (s : PieceSoFar line word at) where
-  piece_last : parts_from line at ≡ part [] End ∷ [] → (piece : Piece) → piece.word ≡ word → piece.mark ≡ End
-      → piece.rest.now ≡ [] → PieceRead line piece
-  piece_last e piece w m r =
-      piece_read line at piece [] (rw w s) (rw m e) (λ t. absurd (false≢true (sym t ∙ ap is_end m))) (rw r (end_none line))
+  piece_last : parts_from line at ≡ part [] End ∷ [] → (piece : Piece) → piece.word ≡ word → piece.mark ≡ End → PieceRead line piece
+  piece_last e piece w m =
+      piece_read line at piece [] (rw w s) (rw m e) (λ t. absurd (false≢true (sym t ∙ ap is_end m)))
 
-  pub piece_ended : length line ≤ at → (piece : Piece) → piece.word ≡ word → piece.mark ≡ End → piece.rest.now ≡ [] → PieceRead line piece
+  pub piece_ended : length line ≤ at → (piece : Piece) → piece.word ≡ word → piece.mark ≡ End → PieceRead line piece
   piece_ended h = piece_last (at_end line at h)
 
+  pub split_ended : length line ≤ at → (piece : Piece) → piece.word ≡ word → piece.mark ≡ End → piece.rest.now ≡ [] → PieceSplit line piece
+  split_ended h piece w m r = record { read = piece_ended h piece w m; ends = rw r (end_none line) }
+
   module _ (on : at < length line) where
-    pub piece_commented : byte_at line at ≡ 35 → (piece : Piece) → piece.word ≡ word → piece.mark ≡ End → piece.rest.now ≡ []
-        → PieceRead line piece
+    pub piece_commented : byte_at line at ≡ 35 → (piece : Piece) → piece.word ≡ word → piece.mark ≡ End → PieceRead line piece
     piece_commented e = piece_last (at_comment line at on e)
+
+    pub split_commented : byte_at line at ≡ 35 → (piece : Piece) → piece.word ≡ word → piece.mark ≡ End → piece.rest.now ≡ []
+        → PieceSplit line piece
+    split_commented e piece w m r = record { read = piece_commented e piece w m; ends = rw r (end_none line) }
 
     module _ (other : byte_at line at ≡ 35 → ⊥) where
       pub piece_letter : (word' : Word) → is_letter_or_digit (byte_at line at) ≡ true
@@ -188,7 +192,10 @@ module _ (line : List ℕ) (word : Word) (at : ℕ) (s : PieceSoFar line word at
       piece_marked piece w e f m r =
           piece_read line at piece (parts_from line (at + 1)) (rw w s)
           (at_mark line at on other e f ∙ ap (λ m. part [] m ∷ parts_from line (at + 1)) (sym m)) (λ t. ap parts_in (sym r))
-          (rw r (end_from line (at + 1) (omega arith)))
+
+      pub split_marked : (piece : Piece) → piece.word ≡ word → is_blank (byte_at line at) ≡ false → is_letter_or_digit (byte_at line at) ≡ false
+          → piece.mark ≡ mark_of (byte_at line at) → piece.rest.now ≡ drop (at + 1) line → PieceSplit line piece
+      split_marked piece w e f m r = record { read = piece_marked piece w e f m r; ends = rw r (end_from line (at + 1) (omega arith)) }
 
 -- A word that has no letter.
 pub kept_empty : (letters : Letters) (word : Word) → word ≡ word_kept letters → eqb word.length 0 ≡ is_empty letters

@@ -83,6 +83,18 @@ right_kept none = Nothing
 unfoldable pub line_kept : Form → Option KeptLine
 line_kept form = cond (form_right form) (Some (right_kept form)) None
 
+-- The name that a line gives to a record, if any, and whether it is a gate.
+
+abbrev pub line_name : KeptLine → Option Name
+line_name Nothing = None
+line_name (Input name) = Some name
+line_name (Gate given) = Some given.name
+
+abbrev pub line_is_gate : KeptLine → Bool
+line_is_gate Nothing = false
+line_is_gate (Input name) = false
+line_is_gate (Gate given) = true
+
 -- What stands in the code's values: names, in the places in use, a gate with these as its pins, and a line.
 
 abbrev pub names_in : Names → List Name
@@ -96,31 +108,22 @@ line_in line.Nothing = Nothing
 line_in (line.Input name) = Input name
 line_in (line.Gate given) = Gate (gate_in given)
 
--- The name that a line gives to a record, if any, and whether it is a gate.
-
-abbrev pub line_name : Line → Option Name
-line_name line.Nothing = None
-line_name (line.Input name) = Some name
-line_name (line.Gate given) = Some given.name
-
-abbrev pub line_is_gate : Line → Bool
-line_is_gate line.Nothing = false
-line_is_gate (line.Input name) = false
-line_is_gate (line.Gate given) = true
-
 -- What a text ends with.
 abbrev pub EndOf : List ℕ → List ℕ → Type 0
 EndOf text rest = rest ≡ drop (length text - length rest) text
 
--- The first line of a text, which the text begins with, and what is left of the text after it, which the text ends with.
+-- The first line of a text, and what is left of the text after it.
 pub record FirstLine (text line rest : List ℕ) : Type 0 where
   pub is : lines_of text ≡ line ∷ lines_of rest
-  pub begins : line ≡ take (length line) text
-  pub ends : EndOf text rest
   pub shorter : length rest < length text
 
--- The piece that a line starts with, read: the first part of its content, and what is left of the line after it, which the line ends
--- with.
+-- The first line split off: the text begins with it, and ends with what is left.
+pub record LineSplit (text line rest : List ℕ) : Type 0 where
+  pub first : FirstLine text line rest
+  pub begins : line ≡ take (length line) text
+  pub ends : EndOf text rest
+
+-- The piece that a line starts with, read: the first part of its content, and what is left of the line after it.
 pub record PieceRead (line : List ℕ) (piece : Piece) : Type 0 where
   pub letters : Letters
   pub rest : List Part
@@ -128,4 +131,8 @@ pub record PieceRead (line : List ℕ) (piece : Piece) : Type 0 where
   pub word : piece.word ≡ word_kept letters
   pub proper : lettered letters ≡ true
   pub goes_on : is_end piece.mark ≡ false → rest ≡ parts_of (content piece.rest.now)
+
+-- The piece split off: the line ends with what is left.
+pub record PieceSplit (line : List ℕ) (piece : Piece) : Type 0 where
+  pub read : PieceRead line piece
   pub ends : EndOf line piece.rest.now

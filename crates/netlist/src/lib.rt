@@ -5,7 +5,7 @@ ghost use Rattle.std.specs.Prelude.{[], MatchOption, option_map, ◌≡◌, ◌=
 ghost use Rattle.std.specs.List.{position};
 ghost use Rattle.netlist.specs.Lines.{content};
 ghost use Rattle.netlist.specs.Forms.{parts_of, declared, assigned, line_form};
-ghost use Rattle.netlist.specs.Kept.{FirstLine, line_in, line_kept, line_name, line_is_gate, OfLetters};
+ghost use Rattle.netlist.specs.Kept.{LineSplit, line_in, line_kept, line_name, line_is_gate, OfLetters};
 
 mod brackets;
 mod pieces;
@@ -66,7 +66,7 @@ pub enum Line {
 impl Line {
     // The name that a line gives to a record, if any.
     pub fn name(&self) -> Option<Name>
-        ensures { result ≡ line_name self.now }
+        ensures { result ≡ line_name (line_in self.now) }
     {
         match self {
             Line::Nothing => None,
@@ -77,7 +77,7 @@ impl Line {
 
     // Whether a line is a gate.
     pub fn is_gate(&self) -> bool
-        ensures { result ≡ line_is_gate self.now }
+        ensures { result ≡ line_is_gate (line_in self.now) }
     {
         match self {
             Line::Nothing | Line::Input(_) => false,
@@ -97,7 +97,7 @@ fn first_end(text: &[u8]) -> Option<usize>
 
 // The first line of a text, and what is left of the text after it; an empty text has none.
 pub fn split_line(text: &[u8]) -> Option<(&[u8], &[u8])>
-    ensures { MatchOption result (text.now ≡ []) (λ split. FirstLine text.now split.0.now split.1.now) }
+    ensures { MatchOption result (text.now ≡ []) (λ split. LineSplit text.now split.0.now split.1.now) }
 {
     match first_end(text) {
         Some(end) => Some((&text[..end], &text[end + 1..])),

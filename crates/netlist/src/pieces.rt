@@ -2,7 +2,7 @@
 ghost use Rattle.std.specs.Prelude.{◌≡◌};
 ghost use Rattle.netlist.specs.Lines.{is_blank};
 ghost use Rattle.netlist.specs.Forms.{mark_of};
-ghost use Rattle.netlist.specs.Kept.{PieceRead};
+ghost use Rattle.netlist.specs.Kept.{PieceSplit};
 
 use super::{Mark, Piece, Word};
 
@@ -30,7 +30,7 @@ impl From<u8> for Mark {
 
 // Reads the word that a line starts with, and the mark after it.
 pub fn read_piece(line: &[u8]) -> Piece<'_>
-    ensures { PieceRead line.now result }
+    ensures { PieceSplit line.now result }
 {
     let mut word = Word::default();
     for (at, byte) in line.iter().enumerate() {

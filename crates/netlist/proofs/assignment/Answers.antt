@@ -27,22 +27,22 @@ no_gate End h letters word rest = refl
 pub returns-in_default : goal.returns-in_default
 returns-in_default c letters e l =
     let piece = c.read_piece-piece in
-    no_gate piece.result.mark c.in_default.not-Open letters piece.ensures.letters piece.ensures.rest
-    ∙ ap (λ parts. line_kept (assigned letters parts)) (sym piece.ensures.is)
+    no_gate piece.result.mark c.in_default.not-Open letters piece.ensures.read.letters piece.ensures.read.rest
+    ∙ ap (λ parts. line_kept (assigned letters parts)) (sym piece.ensures.read.is)
 
 pub returns-in_err-pins : goal.returns-in_err-pins
 returns-in_err-pins c letters e l =
     let piece = c.read_piece-piece in
     ap (option_map line_in) c.from_residual.ensures
-    ∙ assigned_wrong letters _ _ _ (piece_parts _ piece.result piece.ensures Open refl c.in-Open.is)
+    ∙ assigned_wrong letters _ _ _ (piece_parts _ piece.result piece.ensures.read Open refl c.in-Open.is)
     (rw c.in_err-pins.was at c.read_names.ensures)
 
 pub returns-in_err-kind : goal.returns-in_err-kind
 returns-in_err-kind c letters e l =
     let piece = c.read_piece-piece in
     ap (option_map line_in) c.from_residual-in_err-kind.ensures
-    ∙ assigned_unknown letters _ _ _ (piece_parts _ piece.result piece.ensures Open refl c.in-Open.is)
-    (sym c.in_err-kind.was ∙ of_piece _ piece.ensures c.kind.ensures)
+    ∙ assigned_unknown letters _ _ _ (piece_parts _ piece.result piece.ensures.read Open refl c.in-Open.is)
+    (sym c.in_err-kind.was ∙ of_piece _ piece.ensures.read c.kind.ensures)
 
 pub returns : goal.returns
 unfolding word_kept
@@ -50,7 +50,7 @@ returns c letters e l =
     let piece = c.read_piece-piece in
     ap (option_map line_in) c.then_some.ensures ∙ kept_where _ _
     ∙ rw e
-    (assigned_right letters piece.ensures.letters _ _
-    (piece_parts _ piece.result piece.ensures Open refl c.in-Open.is)
-    (rw c.in_ok-pins.was at c.read_names.ensures) (sym c.in_ok-kind.was ∙ of_piece _ piece.ensures c.kind.ensures)
+    (assigned_right letters piece.ensures.read.letters _ _
+    (piece_parts _ piece.result piece.ensures.read Open refl c.in-Open.is)
+    (rw c.in_ok-pins.was at c.read_names.ensures) (sym c.in_ok-kind.was ∙ of_piece _ piece.ensures.read c.kind.ensures)
     (c.is_name.ensures letters e l) (rw c.len.ensures.value at c.pin_count_right.ensures))

@@ -34,11 +34,11 @@ pub returns-in-End : goal.returns-in-End
 unfolding line_form form_of
 returns-in-End c =
     let piece = c.read_piece-first in
-    let letters = piece.ensures.letters in
+    let letters = piece.ensures.read.letters in
     ap (option_map line_in) c.then_some.ensures ∙ kept_where _ _
     ∙ rw (
-      kept_empty letters piece.result.word piece.ensures.word,
-      piece.ensures.is,
+      kept_empty letters piece.result.word piece.ensures.read.word,
+      piece.ensures.read.is,
       c.in-End.is,
     )
     (ends (is_empty letters))
@@ -47,19 +47,19 @@ pub returns-in-Open : goal.returns-in-Open
 unfolding line_form form_of
 returns-in-Open c =
     let piece = c.read_piece-first in
-    let parts = piece_parts _ piece.result piece.ensures Open refl c.in-Open.is in
-    of_piece _ piece.ensures c.declaration.ensures ∙ sym (ap (λ parts. line_kept (form_of parts)) parts)
+    let parts = piece_parts _ piece.result piece.ensures.read Open refl c.in-Open.is in
+    of_piece _ piece.ensures.read c.declaration.ensures ∙ sym (ap (λ parts. line_kept (form_of parts)) parts)
 
 pub returns-in-Equals : goal.returns-in-Equals
 unfolding line_form form_of
 returns-in-Equals c =
     let piece = c.read_piece-first in
-    let parts = piece_parts _ piece.result piece.ensures Equals refl c.in-Equals.is in
-    of_piece _ piece.ensures c.assignment.ensures ∙ sym (ap (λ parts. line_kept (form_of parts)) parts)
+    let parts = piece_parts _ piece.result piece.ensures.read Equals refl c.in-Equals.is in
+    of_piece _ piece.ensures.read c.assignment.ensures ∙ sym (ap (λ parts. line_kept (form_of parts)) parts)
 
 pub returns-in-Comma : goal.returns-in-Comma
 unfolding line_form
 returns-in-Comma c =
     let piece = c.read_piece-first in
-    no_form piece.result.mark c.in-Comma.is piece.ensures.letters piece.ensures.rest
-    ∙ sym (ap (λ parts. line_kept (form_of parts)) piece.ensures.is)
+    no_form piece.result.mark c.in-Comma.is piece.ensures.read.letters piece.ensures.read.rest
+    ∙ sym (ap (λ parts. line_kept (form_of parts)) piece.ensures.read.is)

@@ -47,10 +47,9 @@ returns-in-Some c =
     let ends = found (line_length text) (length text) (sym c.in-Some.ensures) in
     rw (take_rest text after)
     (record {
-      is = ends_at text c.in-Some.end ends.0 (rw ends.0 ends.1);
+      first = record { is = ends_at text c.in-Some.end ends.0 (rw ends.0 ends.1); shorter = omega (arith, ends, length-drop after text) };
       begins = ap (λ n. take n text) (sym (length-take-le c.in-Some.end text (omega (arith, ends))));
       ends = end_from text after (omega (arith, ends));
-      shorter = omega (arith, ends, length-drop after text);
     })
 
 pub returns-in-None-2 : goal.returns-in-None-2
@@ -59,8 +58,7 @@ returns-in-None-2 c =
     let other = eqb-false (length text) 0 (sym c.is_empty.ensures ∙ c.if-is_empty.false) in
     let some : 1 ≤ length text = omega arith in
     record {
-      is = ends_nowhere text some (none_found (line_length text) (length text) (sym c.in-None.ensures));
+      first = record { is = ends_nowhere text some (none_found (line_length text) (length text) (sym c.in-None.ensures)); shorter = omega arith };
       begins = sym (take_all (length text) text (omega arith));
       ends = end_none text;
-      shorter = omega arith;
     }

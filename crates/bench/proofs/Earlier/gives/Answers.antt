@@ -16,12 +16,12 @@ returns-in_default c =
 pub returns-then-gives : goal.returns-then-gives
 returns-then-gives c =
     let l = c.loop in
-    l.invariant _ (given_here c.in-Some.ensures _ _ (omega arith) _ c.read_line.ensures c.gives.ensures c.if-gives.true)
+    l.invariant _ (given_here c.in-Some.ensures.first _ _ (omega arith) _ c.read_line.ensures c.gives.ensures c.if-gives.true)
 
 pub loop-preserved : goal.loop-preserved
 loop-preserved c =
     let l = c.loop in
-    let later = given_later c.in-Some.ensures _ _ (omega arith) _ c.read_line.ensures c.gives.ensures c.if-gives.false in
+    let later = given_later c.in-Some.ensures.first _ _ (omega arith) _ c.read_line.ensures c.gives.ensures c.if-gives.false in
     λ r h. l.invariant r (later r h)
 
 pub returns : goal.returns

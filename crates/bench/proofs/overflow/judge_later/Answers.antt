@@ -15,18 +15,18 @@ pub returns-in_err-line : goal.returns-in_err-line
 returns-in_err-line c =
     let line = missing _ _ c.ok_or.ensures.value c.in_err-line.was in
     rw (handed_on c.from_residual.ensures.1 (ap Err line.1))
-    (form_refused c.loop-bytes.invariant c.in-Some.ensures c.read_line.ensures (ap (option_map line_in) line.0))
+    (form_refused c.loop-bytes.invariant c.in-Some.ensures.first c.read_line.ensures (ap (option_map line_in) line.0))
 
 pub returns-in_err-judge : goal.returns-in_err-judge
 returns-in_err-judge c =
     rw (handed_on c.from_residual-in_err-judge.ensures.1 refl)
-    (line_refused c.loop-bytes.invariant c.in-Some.ensures c.read_line.ensures c.in_ok-line.line
+    (line_refused c.loop-bytes.invariant c.in-Some.ensures.first c.read_line.ensures
     (ap (option_map line_in) (there _ _ c.ok_or.ensures.value c.in_ok-line.was)) c.judge.ensures c.in_err-judge.was)
 
 pub loop-bytes-preserved : goal.loop-bytes-preserved
 loop-bytes-preserved c =
     rw (c.is_gate-after.ensures, c.is_some-more.ensures, c.name.ensures)
-    (judged_next c.loop-bytes.invariant c.in-Some.ensures c.read_line.ensures c.in_ok-line.line
+    (judged_next c.loop-bytes.invariant c.in-Some.ensures.first c.read_line.ensures
     (ap (option_map line_in) (there _ _ c.ok_or.ensures.value c.in_ok-line.was)) c.judge.ensures c.in_ok-judge.was)
 
 pub returns : goal.returns

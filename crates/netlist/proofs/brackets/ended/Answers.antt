@@ -22,13 +22,13 @@ unfolding ended
 returns-in_default c =
     let piece = c.read_piece-piece in
     sym
-    (ap ended piece.ensures.is
-    ∙ and_second_fails (is_empty piece.ensures.letters) (goes_on piece.result.mark c.in_default.not-End))
+    (ap ended piece.ensures.read.is
+    ∙ and_second_fails (is_empty piece.ensures.read.letters) (goes_on piece.result.mark c.in_default.not-End))
 
 pub returns : goal.returns
 unfolding ended
 returns c =
     let piece = c.read_piece-piece in
-    let letters = piece.ensures.letters in
-    kept_empty letters piece.result.word piece.ensures.word
-    ∙ sym (ap ended piece.ensures.is ∙ rw c.in-End.is (and-true (is_empty letters)))
+    let letters = piece.ensures.read.letters in
+    kept_empty letters piece.result.word piece.ensures.read.word
+    ∙ sym (ap ended piece.ensures.read.is ∙ rw c.in-End.is (and-true (is_empty letters)))

@@ -29,33 +29,33 @@ loop-rest-init c = names_none _ _ c.new-names.ensures
 pub returns-then-not-is_name : goal.returns-then-not-is_name
 returns-then-not-is_name c =
     let read = c.read_piece-piece in
-    names_wrong _ _ _ c.loop-rest.invariant read.result read.ensures
-    (sym (of_piece _ read.ensures c.is_name.ensures) ∙ c.if-not-is_name.true)
+    names_wrong _ _ _ c.loop-rest.invariant read.result read.ensures.read
+    (sym (of_piece _ read.ensures.read c.is_name.ensures) ∙ c.if-not-is_name.true)
 
 pub loop-rest-preserved : goal.loop-rest-preserved
 loop-rest-preserved c =
     let read = c.read_piece-piece in
-    names_more _ _ _ c.loop-rest.invariant read.result read.ensures (leb-false 4 _ (sym c.is_full.ensures ∙ c.loop-rest-test.true))
-    (sym (of_piece _ read.ensures c.is_name.ensures) ∙ c.if-not-is_name.false) c.push.ensures c.in-Comma.is
+    names_more _ _ _ c.loop-rest.invariant read.result read.ensures.read (leb-false 4 _ (sym c.is_full.ensures ∙ c.loop-rest-test.true))
+    (sym (of_piece _ read.ensures.read c.is_name.ensures) ∙ c.if-not-is_name.false) c.push.ensures c.in-Comma.is
 
 pub returns-then-ended : goal.returns-then-ended
 returns-then-ended c =
     let read = c.read_piece-piece in
-    names_closed _ _ _ c.loop-rest.invariant read.result read.ensures (leb-false 4 _ (sym c.is_full.ensures ∙ c.loop-rest-test.true))
-    (sym (of_piece _ read.ensures c.is_name.ensures) ∙ c.if-not-is_name.false) c.push.ensures
+    names_closed _ _ _ c.loop-rest.invariant read.result read.ensures.read (leb-false 4 _ (sym c.is_full.ensures ∙ c.loop-rest-test.true))
+    (sym (of_piece _ read.ensures.read c.is_name.ensures) ∙ c.if-not-is_name.false) c.push.ensures
     c.in-Close.is true (sym c.if-ended.true ∙ c.ended.ensures)
 
 pub returns-in-Close : goal.returns-in-Close
 returns-in-Close c =
     let read = c.read_piece-piece in
-    names_closed _ _ _ c.loop-rest.invariant read.result read.ensures (leb-false 4 _ (sym c.is_full.ensures ∙ c.loop-rest-test.true))
-    (sym (of_piece _ read.ensures c.is_name.ensures) ∙ c.if-not-is_name.false) c.push.ensures
+    names_closed _ _ _ c.loop-rest.invariant read.result read.ensures.read (leb-false 4 _ (sym c.is_full.ensures ∙ c.loop-rest-test.true))
+    (sym (of_piece _ read.ensures.read c.is_name.ensures) ∙ c.if-not-is_name.false) c.push.ensures
     c.in-Close.is false (sym c.if-ended.false ∙ c.ended.ensures)
 
 pub returns-in-Equals : goal.returns-in-Equals
 returns-in-Equals c =
     let read = c.read_piece-piece in
-    names_stop _ _ _ c.loop-rest.invariant read.result read.ensures
+    names_stop _ _ _ c.loop-rest.invariant read.result read.ensures.read
     (stops read.result.mark c.in-Equals.is _ _)
 
 pub returns : goal.returns
