@@ -3,11 +3,11 @@
 use Prim.Native.Nat.{ℕ, ◌≤◌, ◌<◌}
 use mathlib.Core.Bool.{Bool, true, false}
 use mathlib.Core.List.{List}
-use mathlib.Core.Path.{◌≡◌, ap, sym, subst, ◌∙◌}
+use mathlib.Core.Path.{◌≡◌, ap, sym, ◌∙◌}
 use native.Mathlib.Omega.{arith}
 use lib.ListN.{length, get_or}
 use Rattle.excitation.specs.UncertaintySet.{code, decode, single, sets_in}
-use Rattle.excitation.proofs.Codes.{code_below}
+use Rattle.excitation.proofs.Codes.{code_below, single_coded, codes_enough}
 use Rattle.block.specs.Limits.{drop_limit}
 use Rattle.operation.specs.declared.Currents.{Currents}
 use Rattle.evaluation.specs.Evaluation.{InputCodes, sheet_for, Evaluated}
@@ -25,9 +25,12 @@ case_codes few long coded = record { enough = omega arith; low = λ net h. omega
 
 -- The drop of a probe, simulated by the codes of its single sets, whatever stands past the inputs.
 
-pub probe_codes : {inputs : ℕ} (codes : List ℕ) {singles : List ℕ} → inputs ≤ length singles
+pub probe_codes : {inputs : ℕ} (codes : List ℕ) {singles : List ℕ}
     → ((net : ℕ) → net < inputs → get_or singles net 0 ≡ code (single (first_allowed (decode (get_or codes net 0))))) → InputCodes inputs singles
-probe_codes codes room coded = record { enough = room; low = λ net h. subst (λ x. x < 16) (sym (coded net h)) (code_below _) }
+probe_codes codes {singles} coded = record {
+  enough = codes_enough singles (λ net h. rw (coded net h) (single_coded _));
+  low = λ net h. rw (coded net h) (code_below _);
+}
 
 pub probe_simulated : {words : List ℕ} {answer : Currents} (setting : Setting) (codes singles : List ℕ)
     → ((net : ℕ) → net < setting.inputs → get_or singles net 0 ≡ code (single (first_allowed (decode (get_or codes net 0)))))

@@ -2,10 +2,10 @@
 -- Assumes nothing.
 use Prim.Native.Nat.{ℕ}
 use mathlib.Core.List.{List}
-use mathlib.Core.Path.{◌≡◌, subst}
+use mathlib.Core.Path.{subst}
 use native.Mathlib.Omega.{arith}
-use lib.ListN.{length}
 use Rattle.laws.specs.Rewritten.{Rewritten}
+use Rattle.excitation.proofs.Codes.{codes_enough}
 use Rattle.block.specs.Record.{allowed}
 use Rattle.block.proofs.Frames.{frame_code, frame_sets}
 use Rattle.operation.specs.declared.Currents.{Currents}
@@ -14,9 +14,9 @@ use Rattle.evaluation.specs.declared.Setting.{Setting}
 use Rattle.envelope.specs.Envelope.{frame_sheet}
 
 module _ (setting : Setting) {given codes : List ℕ} (coded : Rewritten (allowed setting.file.now) 0 setting.inputs given codes) where
-  pub frame_codes : length given ≡ 64 → InputCodes setting.inputs codes
-  frame_codes long = record {
-    enough = omega (arith, long, coded.long, setting.accepted.few_inputs);
+  pub frame_codes : InputCodes setting.inputs codes
+  frame_codes = record {
+    enough = codes_enough codes (λ net h. rw (frame_code setting.accepted coded net h) ((setting.accepted.input net h).allowed_low));
     low = λ net h. (let high = (setting.accepted.input net h).allowed_high in omega (arith, frame_code setting.accepted coded net h));
   }
 

@@ -1,22 +1,24 @@
 -- Laws of the codes of uncertainty sets, and of the sets of the inputs, which are given by their codes.
 -- Assumes nothing.
 use Prim.Native.Nat.{ℕ, ◌+◌, ◌*◌, ◌/◌, ◌%◌, ◌≤◌, ◌<◌}
-use mathlib.Core.Bool.{◌||◌}
+use mathlib.Core.Bool.{false, ◌||◌}
 use mathlib.Core.List.{List}
 use mathlib.Core.Path.{◌≡◌, refl, ap, sym}
-use native.Mathlib.Nat.{mul-add-mod_self_left}
+use native.Mathlib.Nat.{le_refl, mul-add-mod_self_left}
 use native.Mathlib.Omega.{arith}
 use lib.Bits.{bit_and}
-use lib.Dec.{eqb, ltb}
+use lib.Dec.{leb, eqb, ltb}
 use lib.ListN.{length, get_or}
-use borrow.Author.Tests.{eqb-true, ltb-true}
+use borrow.Author.Tests.{leb-true, leb-false, eqb-true, ltb-true}
+use borrow.Table.Steps.{cases}
+use Rattle.std.proofs.lemmas.List.{get_or_past}
 use Rattle.laws.specs.Below.{all_below}
 use Rattle.laws.proofs.Below.{all_at}
 use Rattle.laws.proofs.Tests.{or_cases}
 use Rattle.laws.proofs.Turn.{list_at, list_long, list_same}
-use Rattle.excitation.specs.UncertaintySet.{UncertaintySet, member, ◌∈◌, empty, some, code, decode, sets_in, each, invert_set}
+use Rattle.excitation.specs.UncertaintySet.{UncertaintySet, member, ◌∈◌, empty, single, some, code, decode, sets_in, each, invert_set}
 use Rattle.excitation.specs.declared.Excitation.{Excitation}
-use Rattle.excitation.proofs.Finite.{every_at}
+use Rattle.excitation.proofs.Finite.{for_each, every_at}
 use Rattle.excitation.proofs.Sets.{same_set, same_set_lem, some_gives}
 
 last_bit : (n q r : ℕ) → n ≡ 2 * q + r → r % 2 ≡ n % 2
@@ -43,9 +45,23 @@ pub code_below : (s : UncertaintySet) → code s < 16
 unfolding code
 code_below s = ltb-true _ _ (every_at (λ s. ltb (code s) 16) refl s)
 
+pub single_coded : (x : Excitation) → 1 ≤ code (single x)
+unfolding code
+single_coded = for_each (λ x. 1 ≤ code (single x)) (omega arith) (omega arith) (omega arith) (omega arith)
+
 pub decode_code : (s : UncertaintySet) → decode (code s) ≡ s
 unfolding code decode
 decode_code s = same_set_lem (decode (code s)) s (every_at (λ s. same_set (decode (code s)) s) refl s)
+
+-- What is read past the last code is 0, so that inputs each of which has a set with a member have codes enough.
+pub codes_enough : {inputs : ℕ} (codes : List ℕ) → ((net : ℕ) → net < inputs → 1 ≤ get_or codes net 0) → inputs ≤ length codes
+codes_enough {inputs} codes coded = cases (leb inputs (length codes)) (leb-true inputs (length codes)) few
+  where
+    few : leb inputs (length codes) ≡ false → inputs ≤ length codes
+    few e =
+        let short : length codes < inputs = leb-false inputs (length codes) e in
+        let none : get_or codes (length codes) 0 ≡ 0 = get_or_past codes (length codes) 0 (le_refl (length codes)) in
+        absurd (omega (arith, coded (length codes) short))
 
 -- A number 1 to 15 codes a set that has a member.
 pub some_member : (n : ℕ) → 1 ≤ n → n < 16 → (e : Excitation) × (e ∈ decode n)

@@ -127,7 +127,7 @@ module _ {setting : Setting} {order : List ℕ} {ratio budget threshold : ℕ} {
       (stop_spent _ _ _ ratio (state_in setting.inputs n best store' pattern') (budget - splits) splits (omega arith) (λ e. d (next.greatest ∙ e))
       (rw (← next.greatest) l))
 
-  ends_so : {told : Option Outcome} → EndsSo upper (best - 1) ratio splits budget told → (outcome : Outcome) → told ≡ Some outcome → Ends outcome
+  pub ends_so : {told : Option Outcome} → EndsSo upper (best - 1) ratio splits budget told → (outcome : Outcome) → told ≡ Some outcome → Ends outcome
   ends_so so Exact e = ends_exact (rw e at so)
   ends_so so Within e = let by = rw e at so in ends_within by.0 by.1
   ends_so so Spent e = let by = rw e at so in ends_spent by.0 by.1 by.2

@@ -1,14 +1,14 @@
 -- The envelope of a pattern's single sets, with nothing filled, is the pattern's simulation.
 -- Assumes nothing.
-use Prim.Native.Nat.{ℕ, suc, ◌≤◌, ◌<◌}
+use Prim.Native.Nat.{ℕ, suc, ◌≤◌}
 use mathlib.Core.List.{List, [], ◌∷◌, map}
 use mathlib.Core.Path.{◌≡◌, refl, ap, sym, subst, ◌∙◌}
-use lib.ListN.{length, get_or}
+use lib.ListN.{get_or}
 use Rattle.laws.proofs.Turn.{list_map, list_same}
 use Rattle.excitation.specs.Excitation.{same, hl, lh, excitation_of, pattern_of}
 use Rattle.excitation.specs.UncertaintySet.{member, decode, empty, single, sets_in}
 use Rattle.excitation.specs.declared.Excitation.{Excitation}
-use Rattle.excitation.proofs.Codes.{code_below, decode_code}
+use Rattle.excitation.proofs.Codes.{code_below, single_coded, codes_enough, decode_code}
 use Rattle.excitation.proofs.OneMember.{member_single}
 use Rattle.block.specs.Record.{File, net_count}
 use Rattle.waveform.specs.Waveform.{Waveform, simulation, envelope, waveforms}
@@ -46,8 +46,11 @@ singles_evaluated {words} {answer} setting codes hops enough e pattern are =
 
 -- The codes of a pattern: their sets have its excitations as their one members.
 module _ {inputs : ℕ} {pattern codes : List ℕ} (coded : PatternCodes inputs pattern codes) where
-  pub pattern_codes : inputs ≤ length codes → InputCodes inputs codes
-  pattern_codes room = record { enough = room; low = λ net h. subst (λ x. x < 16) (sym (coded.at net h)) (code_below _) }
+  pub pattern_codes : InputCodes inputs codes
+  pattern_codes = record {
+    enough = codes_enough codes (λ net h. rw (coded.at net h) (single_coded _));
+    low = λ net h. rw (coded.at net h) (code_below _);
+  }
 
   pub pattern_sets : sets_in inputs codes ≡ map single (pattern_of inputs pattern)
   unfolding sets_in pattern_of

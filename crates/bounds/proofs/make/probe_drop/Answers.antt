@@ -1,17 +1,12 @@
 -- `bounds::make::probe_drop` meets its contract.
 -- Assumes nothing.
-use Prim.Native.Nat.{ℕ}
-use native.Mathlib.Omega.{arith}
-use lib.ListN.{length-replicate}
 use Rattle.laws.proofs.Rewritten.{rewritten_first}
 use Rattle.bounds.proofs.Making.{probe_codes, probe_simulated}
 use Rattle.bounds.proofs.make.probe_drop.Goals as goal
 
 pub evaluate_singles-currents-requires : goal.evaluate_singles-currents-requires
 evaluate_singles-currents-requires c =
-    let coded = c.probe_codes-singles.ensures in
-    let few = c.args.setting.accepted.few_inputs in
-    (c.requires, probe_codes c.args.codes.now (omega (arith, coded.long, length-replicate {A = ℕ} 64 0)) (rewritten_first _ _ _ _ coded))
+    (c.requires, probe_codes c.args.codes.now (rewritten_first _ _ _ _ c.probe_codes-singles.ensures))
 
 pub returns : goal.returns
 returns c =
