@@ -53,7 +53,7 @@ pub decode_code : (s : UncertaintySet) → decode (code s) ≡ s
 unfolding code decode
 decode_code s = same_set_lem (decode (code s)) s (every_at (λ s. same_set (decode (code s)) s) refl s)
 
--- What is read past the last code is 0, so that inputs each of which has a set with a member have codes enough.
+-- What is read past the last code is 0. So where the set of each input has a member, there is a code for each.
 pub codes_enough : {inputs : ℕ} (codes : List ℕ) → ((net : ℕ) → net < inputs → 1 ≤ get_or codes net 0) → inputs ≤ length codes
 codes_enough {inputs} codes coded = cases (leb inputs (length codes)) (leb-true inputs (length codes)) few
   where

@@ -148,7 +148,7 @@ piece_read line at piece rest s e goes_on = record {
   goes_on = goes_on;
 }
 
--- What one byte more makes of a piece.
+-- What one byte more makes of a piece: `piece_` laws say what is read of it, and `split_` laws also that the line ends with what is left.
 module _ (line : List ℕ) (word : Word) (at : ℕ) (s : PieceSoFar line word at) where
   piece_last : parts_from line at ≡ part [] End ∷ [] → (piece : Piece) → piece.word ≡ word → piece.mark ≡ End → PieceRead line piece
   piece_last e piece w m =
